@@ -1,0 +1,11 @@
+pub mod Pushed
+pub mod Steps
+pub mod PlaceLaws
+pub mod Written
+pub mod FromRight
+pub mod AboveBelow
+pub mod Spelled
+pub mod Numerals
+pub mod FieldLaws
+pub mod CodeTexts
+pub mod TextBack
