@@ -1,0 +1,15 @@
+pub mod Steps
+pub mod FieldLaws
+pub mod DataLaws
+pub mod HeadLaws
+pub mod EachLaws
+pub mod MessageLaws
+pub mod OutlineLaws
+pub mod TsigLaws
+pub mod CanonicalLaws
+pub mod PartLaws
+pub mod ReadBack
+pub mod ReadAgain
+pub mod ExtentLaws
+pub mod StartLaws
+pub mod RecordBack

@@ -1,0 +1,93 @@
+//! The one writer of record data: fields, one behind the other.
+ghost use Rattle.std.specs.Prelude.{◌≡◌, List};
+ghost use Rattle.dns_wire.specs.Writing.{Writes};
+ghost use Rattle.dns_grammar.specs.Parts.{part_octets, parts_octets, Grows};
+
+use dns_wire::{BinEncoder, EmitError, Name};
+
+/// A field of record data that is to be written (RFC 1035 3.3).
+#[derive(Clone, Copy, Debug)]
+pub enum Part<'a> {
+    /// A number in one octet.
+    U8(u8),
+    /// A number in two octets.
+    U16(u16),
+    /// A number in four octets.
+    U32(u32),
+    /// A time in six octets (RFC 8945 4.2), below 2^48.
+    Time(u64),
+    /// Octets as they are.
+    Octets(&'a [u8]),
+    /// Octets behind their count in one octet, and the cause where there are more than 255.
+    Counted8(&'a [u8], EmitError),
+    /// Octets behind their count in two octets, and the cause where there are more than 65,535.
+    Counted16(&'a [u8], EmitError),
+    /// A name that canonical form lowers (RFC 4034 6.2).
+    Lowered(&'a Name),
+    /// A name that canonical form keeps.
+    Kept(&'a Name),
+}
+
+impl Part<'_> {
+    fn emit(&self, encoder: &mut BinEncoder) -> Result<(), EmitError>
+        ensures { Writes result encoder.old encoder.new (part_octets encoder.old.canonical_form self.now) }
+    {
+        match *self {
+            Part::U8(n) => encoder.emit_u8(n),
+            Part::U16(n) => encoder.emit_u16(n),
+            Part::U32(n) => encoder.emit_u32(n),
+            Part::Time(time) => {
+                if time >= 1 << 48 {
+                    return Err(EmitError::TimeTooLarge);
+                }
+                let high = (time >> 32) as u16;
+                let low = (time & 0xffff_ffff) as u32;
+                encoder.emit_both(&high.to_be_bytes(), &low.to_be_bytes())
+            }
+            Part::Octets(octets) => encoder.emit_vec(octets),
+            Part::Counted8(octets, too_long) => match u8::try_from(octets.len()) {
+                Ok(count) => encoder.emit_both(&count.to_be_bytes(), octets),
+                Err(_) => Err(too_long),
+            },
+            Part::Counted16(octets, too_long) => match u16::try_from(octets.len()) {
+                Ok(count) => encoder.emit_both(&count.to_be_bytes(), octets),
+                Err(_) => Err(too_long),
+            },
+            Part::Lowered(name) => {
+                if encoder.is_canonical_form() {
+                    encoder.emit_vec(name.to_lowercase().as_wire())
+                } else {
+                    encoder.emit_vec(name.as_wire())
+                }
+            }
+            Part::Kept(name) => encoder.emit_vec(name.as_wire()),
+        }
+    }
+}
+
+/// Writes the fields up to the first that can't be written.
+#[tactic(auto, using(crate::proofs::PartLaws::put_none, crate::proofs::PartLaws::put_more, crate::proofs::PartLaws::put_fails, crate::proofs::PartLaws::put_all))]
+fn append_parts(encoder: &mut BinEncoder, parts: &[Part<'_>]) -> Result<(), EmitError>
+    ensures { Grows result encoder.old encoder.new (parts_octets encoder.old.canonical_form parts.now) }
+{
+    for part in parts {
+        part.emit(encoder)?;
+    }
+    Ok(())
+}
+
+/// Writes the fields, one behind the other, or nothing where one of them can't be written.
+///
+/// The first field that can't be written is the cause: a time of 2^48 or more is `TimeTooLarge`, and counted octets name their own.
+/// Names heed the encoder's canonical form and not its name encoding.
+#[tactic(auto, using(crate::proofs::PartLaws::cut_back))]
+pub fn emit_parts(encoder: &mut BinEncoder, parts: &[Part<'_>]) -> Result<(), EmitError>
+    ensures { Writes result encoder.old encoder.new (parts_octets encoder.old.canonical_form parts.now) }
+{
+    let start = encoder.len();
+    let result = append_parts(encoder, parts);
+    if result.is_err() {
+        encoder.truncate(start);
+    }
+    result
+}
