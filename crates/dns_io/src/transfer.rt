@@ -1,0 +1,109 @@
+//! Reading all there is, and writing all there is to write.
+
+ghost use Rattle.std.specs.Prelude.{◌≡◌, ◌≢◌, ◌≤◌, ◌<◌, ◌+◌, length, IfOk, OnOk, OnErr, IsErrOf, vec_len};
+ghost use Rattle.std.specs.Io.KnownBytes.{Appends, Consumes, IsAtEnd};
+ghost use Rattle.dns_io.specs.Counts.{Rose, RoseBy, raised, CountsFaults};
+ghost use Rattle.dns_io.specs.Transfer.{ReadsAll, AppendsPrefix, Moves};
+ghost use Rattle.dns_io.specs.declared.transfer.TheConstants.{LIMIT};
+ghost use Rattle.dns_io.specs.declared.transfer.ReadError.TheVariants.{OutOfMemory};
+
+use crate::{Failed, Sink, Source};
+use std::alloc::{AllocError, Global};
+use thiserror::Error;
+
+/// The most octets that are read.
+pub const LIMIT: usize = 16_777_216;
+
+// How many octets are asked for at once.
+const PIECE: usize = 65_536;
+
+/// Why there is no content.
+#[derive(Clone, Copy, Debug, PartialEq, Eq, Hash, Error)]
+pub enum ReadError {
+    /// A read failed.
+    #[error("a read failed")]
+    Fault,
+    /// More than [`LIMIT`] octets come before the end.
+    #[error("the input is too long")]
+    TooLong,
+    /// There was no memory.
+    #[error("out of memory")]
+    OutOfMemory,
+}
+
+impl From<AllocError> for ReadError {
+    ghost from_gives = { λ _ e. e ≡ OutOfMemory };
+
+    fn from(_: AllocError) -> Self {
+        ReadError::OutOfMemory
+    }
+}
+
+/// All the octets of a source, up to its end. At most `LIMIT` + 1 octets are ever taken.
+pub fn read_all<S: Source>(alloc: Global, source: &mut S) -> Result<Vec<u8>, ReadError>
+    // What the source tells decides, but for a failed read and for want of memory.
+    ensures told { ReadsAll result (S.left source.old) }
+    ensures end { OnOk result (IsAtEnd (S.left source.new)) }
+    ensures taken { IfOk result (λ content. S.taken source.new ≡ raised (S.taken source.old) (vec_len content)) }
+    ensures consumed { IfOk result (λ content. Consumes (S.left source.old) (S.left source.new) content.items) }
+
+    // Each refusal has its cause, also where the source tells nothing.
+    ensures fault { IsErrOf result ReadError.Fault → Rose (S.faults source.old) (S.faults source.new) }
+    ensures too_long { IsErrOf result ReadError.TooLong
+        → RoseBy (LIMIT + 1) (S.taken source.old) (S.taken source.new) }
+    ensures later { S.faults source.old ≤ S.faults source.new }
+    ensures at_most { S.taken source.new ≤ raised (S.taken source.old) (LIMIT + 1) }
+{
+    let mut content = Vec::new(alloc);
+    let mut piece = empty_piece(alloc)?;
+    'pieces: while content.len() <= LIMIT {
+        let room = piece.len().min(LIMIT + 1 - content.len());
+        if read_piece(source, &mut piece[..room], &mut content)? == 0 {
+            return Ok(content);
+        }
+    }
+    Err(ReadError::TooLong)
+}
+
+// Reads once, and appends what came. Nothing comes at the end alone.
+fn read_piece<S: Source>(
+    source: &mut S,
+    piece: &mut [u8],
+    content: &mut Vec<u8>,
+) -> Result<usize, ReadError>
+    ensures moved { IfOk result (Moves (S.left source.old) (S.left source.new) content.old.items content.new.items) }
+    ensures end { IfOk result (λ n. n ≡ 0 → 0 < length piece.old → IsAtEnd (S.left source.new)) }
+    ensures bound { IfOk result (λ n. n ≤ length piece.old) }
+    ensures taken { IfOk result (λ n. S.taken source.new ≡ raised (S.taken source.old) n) }
+    ensures fault { IsErrOf result ReadError.Fault → Rose (S.faults source.old) (S.faults source.new) }
+    ensures too_long { result ≢ Err ReadError.TooLong }
+    ensures later { S.faults source.old ≤ S.faults source.new }
+    ensures at_most { S.taken source.new ≤ raised (S.taken source.old) (length piece.old) }
+{
+    let Ok(count) = source.read(piece) else {
+        return Err(ReadError::Fault);
+    };
+    content.extend_from_slice(&piece[..count])?;
+    Ok(count)
+}
+
+// Room for a piece of the input. The loop needs only that it is some, and a proof does not count to 65,536.
+fn empty_piece(alloc: Global) -> Result<Vec<u8>, AllocError>
+    ensures { IfOk result (λ piece. 0 < vec_len piece) }
+{
+    vec![in alloc; 0u8; PIECE]
+}
+
+/// Writes the whole text, or a prefix of it where a write fails.
+pub fn write_all<K: Sink>(sink: &mut K, text: &[u8]) -> Result<(), Failed>
+    ensures whole { OnOk result (Appends (K.held sink.old) (K.held sink.new) text.now) }
+    ensures prefix { OnErr result (AppendsPrefix (K.held sink.old) (K.held sink.new) text.now) }
+    ensures faults { CountsFaults (K.faults sink.old) (K.faults sink.new) result }
+{
+    let mut rest = text;
+    'pieces: while !rest.is_empty() {
+        let count = sink.write(rest)?;
+        rest = &rest[count..];
+    }
+    Ok(())
+}
