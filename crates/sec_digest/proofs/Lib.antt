@@ -1,0 +1,7 @@
+mod Blocks
+mod Comparing
+mod Digits
+mod Finishing
+mod Groups
+mod Lengths
+mod Telling

@@ -1,0 +1,4 @@
+pub mod Base32
+pub mod Digests
+pub mod Hmac
+pub mod Mac

@@ -1,0 +1,21 @@
+//! Digests of octets: those that DS records name, the iterated hash of NSEC3, base32 as DNSSEC
+//! writes it, and HMAC.
+#![tactic(auto)]
+
+mod base32;
+mod digest;
+mod digest_type;
+mod hash;
+mod hmac;
+pub mod laws;
+mod mac;
+mod nsec3_hash;
+#[cfg(test)]
+mod tests;
+
+pub use base32::base32_dnssec;
+pub use digest::Digest;
+pub use digest_type::DigestType;
+pub use hmac::{Hmac, HmacHash};
+pub use mac::Mac;
+pub use nsec3_hash::Nsec3HashAlgorithm;
