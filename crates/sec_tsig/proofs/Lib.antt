@@ -1,0 +1,10 @@
+pub mod Each
+pub mod NumberEnds
+pub mod LastSteps
+pub mod SetSteps
+pub mod Firsts
+pub mod KeySteps
+pub mod MessageSets
+pub mod Records
+pub mod Outlines
+pub mod ByMessage

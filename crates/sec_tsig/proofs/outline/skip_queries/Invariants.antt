@@ -1,0 +1,12 @@
+use Rattle.std.proofs.Common.{◌≡◌, ◌-◌, ◌≤◌}
+use Rattle.dns_wire.specs.Reading.{octets, place}
+use Rattle.dns_grammar.specs.Messages.{end_of, queries_at}
+use Rattle.sec_tsig.proofs.outline.skip_queries.Given as goal
+
+-- the questions that are left end where all of them do
+abbrev pub invariant-queries : goal.invariant-queries
+invariant-queries l = record {
+  left : end_of (queries_at (l.count - l.counter) (octets l.reader) (place l.reader)) ≡ end_of (queries_at l.count (octets l.fn.reader) (place l.fn.reader));
+  forward : place l.fn.reader ≤ place l.reader;
+  same : octets l.reader ≡ octets l.fn.reader;
+}

@@ -1,0 +1,74 @@
+//! The record sets of a message, found in its octets.
+ghost use Rattle.std.specs.Prelude.{◌≡◌, ◌≤◌, IsOk};
+ghost use Rattle.dns_wire.specs.declared.error.DecodeError.TheVariants.{OutOfMemory as no_memory};
+ghost use Rattle.dns_wire.specs.Reading.{octets, place, each_at, GivesUnless, Reads};
+ghost use Rattle.dns_grammar.specs.Tables.{short_table};
+ghost use Rattle.dns_grammar.specs.Messages.{message_at};
+ghost use Rattle.sec_tsig.specs.RecordSets.{sets_given};
+ghost use Rattle.sec_tsig.specs.SetReading.{added_sets, set_at, sets_at, YieldsUnless};
+
+use crate::first_set::FirstSet;
+use crate::outline::skip_queries;
+use crate::parts::{Header, RecordHead};
+use crate::set_list::SetList;
+use dns_wire::{BinDecoder, DecodeError};
+use std::alloc::Global;
+
+/// Passes a record, and gives the set that it is of.
+#[tactic(auto, unfolding(crate::specs::SetReading::set_at))]
+fn read_set(decoder: &mut BinDecoder<'_>, section: u8) -> Result<FirstSet, DecodeError>
+    ensures exact { Reads (λ set. set) result (place decoder.old) (place decoder.new) (set_at section (octets decoder.old) (place decoder.old)) }
+    ensures octets { octets decoder.new ≡ octets decoder.old }
+    ensures forward { place decoder.old ≤ place decoder.new }
+{
+    let mut reader = *decoder;
+    let head = RecordHead::read(&mut reader)?;
+    let end = reader.buffer().len();
+    reader.read_slice_within(usize::from(head.length), end)?;
+    *decoder = reader;
+    Ok(FirstSet {
+        section,
+        owner: head.name,
+        dns_class: head.dns_class,
+        rtype: head.rtype,
+    })
+}
+
+/// Adds the sets of a section's records.
+#[tactic(auto, using(crate::proofs::SetSteps::sets_more, crate::proofs::SetSteps::sets_none))]
+fn add_records<'a>(
+    mut sets: SetList,
+    mut reader: BinDecoder<'a>,
+    section: u8,
+    count: u16,
+) -> Result<(SetList, BinDecoder<'a>), DecodeError>
+    ensures { YieldsUnless no_memory (λ sets. sets) reader.entry result (added_sets sets (each_at (set_at section (octets reader.entry)) count (place reader.entry))) }
+{
+    'records: for _ in 0..count {
+        let set = read_set(&mut reader, section)?;
+        sets = sets.with(set)?;
+    }
+    Ok((sets, reader))
+}
+
+/// The record sets behind a header.
+#[tactic(auto, unfolding(crate::specs::SetReading::sets_at))]
+fn read_sets(alloc: Global, message: &[u8]) -> Result<Vec<FirstSet>, DecodeError>
+    ensures { GivesUnless no_memory (λ v. v.items) result (sets_at message.now) }
+{
+    let (header, reader) = Header::read(message)?;
+    let reader = skip_queries(reader, header.questions)?;
+    let sets = SetList::new(alloc);
+    let (sets, reader) = add_records(sets, reader, 0, header.answers)?;
+    let (sets, reader) = add_records(sets, reader, 1, header.authorities)?;
+    let (sets, _) = add_records(sets, reader, 2, header.additionals)?;
+    Ok(sets.into_vec())
+}
+
+/// The record sets of the message in these octets, section by section, in order of first record.
+pub(crate) fn record_sets(alloc: Global, message: &[u8]) -> Result<Vec<FirstSet>, DecodeError>
+    requires { IsOk (message_at short_table message.now) }
+    ensures { GivesUnless no_memory (λ v. v.items) result (sets_given (message_at short_table message.now)) }
+{
+    read_sets(alloc, message)
+}

@@ -1,0 +1,61 @@
+//! A list of record sets, each once.
+
+use crate::first_set::{FirstSet, SetKey};
+use dns_wire::OutOfMemory;
+use std::alloc::Global;
+use std::collections::BTreeSet;
+use std::marker::Model;
+
+/// Record sets in the order in which they were first met. A contract sees the list alone.
+#[derive(Drop)]
+pub(crate) struct SetList {
+    sets: Vec<FirstSet>,
+    seen: BTreeSet<SetKey>,
+}
+
+impl Model for SetList {
+    ghost use Rattle.std.specs.Prelude.{List};
+    ghost use Rattle.sec_tsig.specs.declared.first_set.FirstSet.{FirstSet};
+    ghost use Rattle.sec_tsig.specs.RecordSets.{Knows};
+
+    ghost Value = { List FirstSet };
+
+    ghost view = { λ s. s.sets.items };
+
+    ghost invariant = { λ s. Knows s.sets.items s.seen };
+}
+
+impl SetList {
+    ghost use Rattle.std.specs.Prelude.{◌≡◌, [], IfOk};
+    ghost use Rattle.sec_tsig.specs.RecordSets.{with_set};
+
+    pub(crate) fn new(alloc: Global) -> SetList
+        ensures { result ≡ [] }
+    {
+        SetList {
+            sets: Vec::new(alloc),
+            seen: BTreeSet::new(alloc),
+        }
+    }
+
+    /// Puts a set at the end, unless its records form no sets or it is there.
+    pub(crate) fn with(mut self, set: FirstSet) -> Result<SetList, OutOfMemory>
+        ensures { IfOk result (λ sets. sets ≡ with_set self set) }
+    {
+        if !set.is_listed() {
+            return Ok(self);
+        }
+        if !self.seen.insert(set.key())? {
+            return Ok(self);
+        }
+        self.sets.push(set)?;
+        Ok(self)
+    }
+
+    pub(crate) fn into_vec(self) -> Vec<FirstSet>
+        ensures { result.items ≡ self }
+    {
+        let SetList { sets, seen: _ } = self;
+        sets
+    }
+}

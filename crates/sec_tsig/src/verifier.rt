@@ -1,0 +1,196 @@
+//! Checking the answer to a signed request.
+ghost use Rattle.std.specs.Prelude.{◌≡◌, true, Ok};
+ghost use Rattle.dns_grammar.specs.Tables.{short_table};
+ghost use Rattle.dns_grammar.specs.Messages.{outline_at};
+ghost use Rattle.std.specs.Option.{option_map, ForSome};
+ghost use Rattle.std.specs.Str.{bytes_eq};
+ghost use Rattle.dns_wire.specs.Reading.{GivesUnless};
+ghost use Rattle.sec_digest.specs.Mac.{mac_octets};
+ghost use Rattle.sec_tsig.specs.Views.{header_view, is_one_of, outline_view, signature_view, IsPlaced, TsigFits};
+ghost use Rattle.sec_tsig.specs.Verdict.{expected_mac, is_in_time, signature_verdict, tsig_verdict};
+ghost use Rattle.sec_tsig.specs.Causes.{Judges};
+ghost use Rattle.sec_tsig.specs.FirstMessages.{answer_types, first_answer};
+
+use crate::first_set::FirstSet;
+use crate::mac_input::feed_mac_input;
+use crate::outline::Outline;
+use crate::parts::Header;
+use crate::record_sets::record_sets;
+use crate::signature_view::SignatureView;
+use crate::signer::FirstSigner;
+use dns_wire::RecordType;
+use sec_digest::Mac;
+use std::alloc::Global;
+use std::marker::Model;
+use thiserror::Error;
+
+/// Checks the first answer to a signed request: the signer, the time of the request, the last MAC and the last time signed.
+#[derive(Debug, Drop)]
+pub struct FirstVerifier {
+    signer: FirstSigner,
+    request_time: u64,
+    mac: Mac,
+    time: u64,
+    first: bool,
+}
+
+impl Model for FirstVerifier {
+    ghost use Rattle.sec_tsig.specs.Verdict.{Chain};
+    ghost use Rattle.sec_digest.specs.Mac.{mac_octets};
+
+    ghost Value = { Chain };
+
+    ghost view = { λ s. record { signer = s.signer; request_time = s.request_time; mac = mac_octets s.mac; time = s.time; first = s.first } };
+}
+
+/// Why an answer gives no record sets: the first that holds.
+#[derive(Clone, Copy, Debug, PartialEq, Eq, Error)]
+pub enum FirstError {
+    /// The octets are no message.
+    #[error("no message")]
+    Decode,
+    /// A record of another type than A, OPT and TSIG.
+    #[error("a record of a type that is not supported")]
+    NotBuilt,
+    /// No valid answer to the request.
+    #[error("no valid answer")]
+    Invalid,
+    /// There was no memory.
+    #[error("out of memory")]
+    OutOfMemory,
+}
+
+/// Why a message is no valid answer: the first that holds.
+#[derive(Clone, Copy, Debug, PartialEq, Eq)]
+pub(crate) enum VerifyError {
+    MissingTsig,
+    TsigWrongKey,
+    TruncatedMac,
+    HmacInvalid,
+    Outdated,
+    NotAResponse,
+}
+
+impl FirstVerifier {
+    /// A verifier of the first answer to a request with this MAC.
+    pub(crate) fn new(signer: FirstSigner, request_time: u64, mac: Mac) -> FirstVerifier
+        ensures { result ≡ record { signer = signer; request_time = request_time; mac = mac_octets mac; time = 0; first = true } }
+    {
+        FirstVerifier {
+            signer,
+            request_time,
+            mac,
+            time: 0,
+            first: true,
+        }
+    }
+
+    /// Whether a message was signed no earlier than the last one, and the request was sent within its window.
+    fn is_in_time(&self, signature: &SignatureView<'_>) -> bool
+        requires { TsigFits signature.now.tsig }
+        ensures { result ≡ is_in_time self.now (signature_view signature.now) }
+    {
+        let time = signature.tsig.time;
+        let fudge = u64::from(signature.tsig.fudge);
+        self.time <= time
+            && time.saturating_sub(fudge) <= self.request_time
+            && self.request_time < time + fudge
+    }
+
+    /// Whether the TSIG has the MAC that the message must have.
+    fn has_mac(&self, octets: &[u8], header: &Header, signature: &SignatureView<'_>) -> bool
+        requires { IsPlaced 12 octets.now header.now signature.now }
+        ensures { result ≡ bytes_eq signature.now.tsig.mac.now (expected_mac self.now octets.now (header_view header.now) (signature_view signature.now)) }
+    {
+        let mut hasher = self.signer.hasher();
+        feed_mac_input(
+            &mut hasher,
+            self.mac.as_slice(),
+            self.first,
+            header.additionals,
+            octets,
+            signature,
+        );
+        hasher.verify(signature.tsig.mac)
+    }
+
+    /// The verdict on a message with this TSIG.
+    #[tactic(auto, unfolding(crate::specs::Verdict::signature_verdict))]
+    fn signature_verdict(
+        &self,
+        octets: &[u8],
+        header: &Header,
+        signature: &SignatureView<'_>,
+    ) -> Result<(), VerifyError>
+        requires { IsPlaced 12 octets.now header.now signature.now }
+        ensures { Judges result (signature_verdict self.now octets.now (header_view header.now) (signature_view signature.now)) }
+    {
+        if !self.signer.has_key_of(signature) {
+            return Err(VerifyError::TsigWrongKey);
+        }
+        if signature.tsig.mac.len() < self.signer.mac_len() {
+            return Err(VerifyError::TruncatedMac);
+        }
+        if !self.has_mac(octets, header, signature) {
+            return Err(VerifyError::HmacInvalid);
+        }
+        if !self.is_in_time(signature) {
+            return Err(VerifyError::Outdated);
+        }
+        if header.flags < 0x8000 {
+            return Err(VerifyError::NotAResponse);
+        }
+        Ok(())
+    }
+
+    /// The verdict on a message.
+    fn verdict(&self, octets: &[u8], outline: &Outline<'_>) -> Result<(), VerifyError>
+        requires { ForSome outline.now.signature (IsPlaced 12 octets.now outline.now.header) }
+        ensures { Judges result (tsig_verdict self.now octets.now (header_view outline.now.header) (option_map signature_view outline.now.signature)) }
+    {
+        match &outline.signature {
+            None => Err(VerifyError::MissingTsig),
+            Some(signature) => self.signature_verdict(octets, &outline.header, signature),
+        }
+    }
+
+    /// The record sets of an answer with this outline.
+    fn answer_of(
+        &self,
+        alloc: Global,
+        octets: &[u8],
+        outline: &Outline<'_>,
+    ) -> Result<Vec<FirstSet>, FirstError>
+        requires read { outline_at short_table (is_one_of answer_types) octets.now ≡ Ok (outline_view outline.now) }
+        requires placed { ForSome outline.now.signature (IsPlaced 12 octets.now outline.now.header) }
+        ensures { GivesUnless FirstError.OutOfMemory (λ sets. sets.items) result (first_answer self.now octets.now) }
+    {
+        if !outline.types_pass {
+            return Err(FirstError::NotBuilt);
+        }
+        if self.verdict(octets, outline).is_err() {
+            return Err(FirstError::Invalid);
+        }
+        match record_sets(alloc, octets) {
+            Ok(sets) => Ok(sets),
+            Err(_) => Err(FirstError::OutOfMemory),
+        }
+    }
+
+    /// The record sets of an answer.
+    ///
+    /// # Errors
+    ///
+    /// `Decode` where the octets are no message, `NotBuilt` where it has a record of another type than A, OPT and TSIG, and `Invalid`
+    /// where its TSIG is missing, of another key or algorithm, has a MAC that is cut or wrong, where it was signed at a time whose window
+    /// does not hold the time of the request, and where it is no response. `OutOfMemory` where there is none.
+    pub fn answer(&self, alloc: Global, octets: &[u8]) -> Result<Vec<FirstSet>, FirstError>
+        ensures { GivesUnless FirstError.OutOfMemory (λ sets. sets.items) result (first_answer self.now octets.now) }
+    {
+        let types = [RecordType::A, RecordType::OPT, RecordType::TSIG];
+        match Outline::read(octets, &types) {
+            Err(_) => Err(FirstError::Decode),
+            Ok(outline) => self.answer_of(alloc, octets, &outline),
+        }
+    }
+}
