@@ -1,0 +1,86 @@
+#!/usr/bin/env python3
+"""Times the program `dnscheck` over the largest inputs that it reads.
+
+    bench/run.py [PROGRAM] [RUNS]
+
+PROGRAM is the built program, by default crates/dnscheck/out/dnscheck (`rt run` in crates/dnscheck builds it). Each input
+is given RUNS times, by default 5, and the shortest time is printed, with the status and the number of octets written.
+"""
+
+import os
+import platform
+import subprocess
+import sys
+import time
+
+LIMIT = 16_777_216
+
+ROOT = os.path.dirname(os.path.dirname(os.path.abspath(__file__)))
+
+KEY = b"key hmac-sha256 k. 300 0b0b0b0b0b0b0b0b0b0b0b0b0b0b0b0b0b0b0b0b\n"
+QUERY = "123401000001000000000000076578616d706c650000010001"
+REQUEST = f"request 1000 {QUERY}\n".encode()
+
+# a response, signed, to which zero octets may be added
+ANSWER = (
+    "123481800001000100000001076578616d706c650000010001c00c0001000100000e100004c0000201"
+    "016b0000fa00ff00000000003d0b686d61632d736861323536000000000003e8012c0020"
+    "bd51d084b43578959c48a9ff978363372f39c9fdcaab2dbedaf304bfbddeb40d123400000000"
+)
+
+
+def filled(front, line, back):
+    """The front, as often the line as there is room for, and the back."""
+    room = LIMIT - len(front) - len(back)
+    return front + line * (room // len(line)) + back
+
+
+def inputs():
+    """Each input by its name, with the status that it comes to."""
+    answer = ("answer 0 " + ANSWER + "00" * (65_535 - len(ANSWER) // 2) + "\n").encode()
+    short = f"answer 0 {ANSWER}\n".encode()
+    comment = b"# a line that is skipped, of sixty-four octets with its feed ..\n"
+    good = KEY + REQUEST + short
+    yield "an answer of 65,535 octets among comment lines", 0, filled(KEY + REQUEST, comment, answer)
+    yield "16,777,216 line feeds", 2, b"\n" * LIMIT
+    yield "one comment of 16,777,216 octets", 2, b"#" * LIMIT
+    yield "a script and a comment up to the limit", 0, good + b"#" * (LIMIT - len(good))
+    yield "a script behind lines of one `#` each", 0, filled(b"", b"#\n", good)
+    yield "a time of 16 million leading zeros", 0, filled(KEY + b"request ", b"0", b"1000 " + QUERY.encode() + b"\n" + short)
+    yield "an answer of 8 million octets", 1, filled(KEY + REQUEST + b"answer 0 ", b"00", b"\n")
+    yield "a key of 8 million octets", 1, filled(b"key hmac-sha256 k. 300 ", b"0b", b"\n" + REQUEST + short)
+    yield "one line of 8 million words", 2, filled(KEY + REQUEST + b"answer 0", b" 0", b"\n")
+    yield "one octet more than the limit", 6, b"\n" * (LIMIT + 1)
+
+
+def timed(program, octets):
+    start = time.perf_counter()
+    done = subprocess.run([program, "check"], input=octets, stdout=subprocess.PIPE, check=False)
+    return time.perf_counter() - start, done
+
+
+def processor():
+    try:
+        with open("/proc/cpuinfo", encoding="utf-8") as file:
+            names = [line.split(":", 1)[1].strip() for line in file if line.startswith("model name")]
+        return names[0] if names else platform.processor()
+    except OSError:
+        return platform.processor()
+
+
+def main():
+    program = sys.argv[1] if len(sys.argv) > 1 else os.path.join(ROOT, "crates/dnscheck/out/dnscheck")
+    runs = int(sys.argv[2]) if len(sys.argv) > 2 else 5
+    print(f"{platform.system()} {platform.machine()}, {processor()}, {os.cpu_count()} processors, best of {runs}")
+    print(f"{'seconds':>8}  {'status':>6}  {'written':>8}  input")
+    failed = False
+    for name, status, octets in inputs():
+        seconds, done = min((timed(program, octets) for _ in range(runs)), key=lambda run: run[0])
+        note = "" if done.returncode == status else f"  (status {status} was expected)"
+        failed = failed or done.returncode != status
+        print(f"{seconds:8.3f}  {done.returncode:6}  {len(done.stdout):8}  {name}{note}")
+    sys.exit(1 if failed else 0)
+
+
+if __name__ == "__main__":
+    main()

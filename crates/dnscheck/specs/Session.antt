@@ -1,0 +1,104 @@
+-- The text and the status of a session.
+use Rattle.std.specs.Prelude.{◌≡◌, ℕ, ◌<◌, ◌≤◌, List, [], ◌∷◌, ◌++◌, length, codes, map, if◌then◌else◌, Option, Some, None, Result, Ok, Err, is_ok}
+use Rattle.std.specs.declared.alloc.Global.{Global}
+use Rattle.std.specs.List.{flat_map, list_all, enumerate_from}
+use Rattle.std.specs.String.{string_bytes}
+use Rattle.std.specs.declared.string.String.{String}
+use Rattle.std.specs.Io.KnownBytes.{Appends, Consumes, IsAtEnd}
+use Rattle.dns_io.specs.declared.status.Status.{Status}
+use Rattle.dns_io.specs.declared.status.Status.TheVariants.{Usage, ReadFault, TooLong, OutOfMemory, WriteFault, ScriptFault, Refused, Accepted}
+use Rattle.dns_io.specs.declared.transfer.TheConstants.{LIMIT}
+use Rattle.dns_io.specs.Transfer.{AppendsPrefix}
+use Rattle.sec_tsig.specs.declared.first_set.FirstSet.{FirstSet}
+use Rattle.sec_tsig.specs.declared.verifier.FirstError.{FirstError}
+use Rattle.sec_tsig.specs.Verdict.{Chain}
+use Rattle.sec_tsig.specs.FirstMessages.{first_answer}
+use Rattle.dnscheck.specs.Script.{Answer, Script, script_of}
+use Rattle.dnscheck.specs.Text.{request_text, accepted_text, refused_text, set_text, fault_text}
+
+-- The sets of each answer, or its cause. No answer moves the chain, since a script has only one as yet.
+abbrev pub verdicts : Chain → List Answer → List (Result (List FirstSet) FirstError)
+verdicts chain answers = map (λ answer. first_answer chain answer.octets) answers
+
+-- a line for the answer, and one for each of its sets
+abbrev pub answer_text : ℕ → Result (List FirstSet) FirstError → List ℕ
+answer_text number (Ok sets) = accepted_text number (length sets) ++ flat_map set_text sets
+answer_text number (Err cause) = refused_text number cause
+
+-- The answers are numbered from 1.
+abbrev pub answers_text : List (Result (List FirstSet) FirstError) → List ℕ
+answers_text found = flat_map (λ numbered. answer_text numbered.0 numbered.1) (enumerate_from 1 found)
+
+abbrev pub script_text : Option Script → List ℕ
+script_text (Some script) = request_text script.request ++ answers_text (verdicts script.chain script.answers)
+script_text None = fault_text
+
+abbrev pub script_status : Option Script → Status
+script_status (Some script) = if list_all is_ok (verdicts script.chain script.answers) then Accepted else Refused
+script_status None = ScriptFault
+
+-- the text that the octets of a script make
+abbrev pub session : List ℕ → List ℕ
+session octets = script_text (script_of octets)
+
+-- the status that they come to
+abbrev pub session_status : List ℕ → Status
+session_status octets = script_status (script_of octets)
+
+-- the words of the command
+abbrev pub IsCheck : List (String Global) → Type 0
+IsCheck [] = ⊥
+IsCheck (word ∷ []) = string_bytes word ≡ codes "check"
+IsCheck (word ∷ other ∷ words) = ⊥
+
+-- Octets within the limit come to their session's status, and others to `TooLong`. The command's words, the outside and want of memory come before that.
+abbrev pub IsStatusFor : Status → List ℕ → Type 0
+IsStatusFor Usage octets = Unit {0}
+IsStatusFor ReadFault octets = Unit {0}
+IsStatusFor TooLong octets = LIMIT < length octets
+IsStatusFor OutOfMemory octets = Unit {0}
+IsStatusFor WriteFault octets = length octets ≤ LIMIT
+IsStatusFor ScriptFault octets = (length octets ≤ LIMIT) × (session_status octets ≡ ScriptFault)
+IsStatusFor Refused octets = (length octets ≤ LIMIT) × (session_status octets ≡ Refused)
+IsStatusFor Accepted octets = (length octets ≤ LIMIT) × (session_status octets ≡ Accepted)
+
+-- the statuses under which nothing is written
+abbrev pub WritesNothing : Status → Type 0
+WritesNothing Usage = Unit {0}
+WritesNothing ReadFault = Unit {0}
+WritesNothing TooLong = Unit {0}
+WritesNothing OutOfMemory = Unit {0}
+WritesNothing WriteFault = ⊥
+WritesNothing ScriptFault = ⊥
+WritesNothing Refused = ⊥
+WritesNothing Accepted = ⊥
+
+-- the statuses under which a text is written, whole or in part
+abbrev pub WritesText : Status → Type 0
+WritesText Usage = ⊥
+WritesText ReadFault = ⊥
+WritesText TooLong = ⊥
+WritesText OutOfMemory = ⊥
+WritesText WriteFault = Unit {0}
+WritesText ScriptFault = Unit {0}
+WritesText Refused = Unit {0}
+WritesText Accepted = Unit {0}
+
+-- The whole text is appended, or a prefix of it where a write failed.
+abbrev pub AppendsText : Status → Option (List ℕ) → Option (List ℕ) → List ℕ → Type 0
+AppendsText Usage old new text = Unit {0}
+AppendsText ReadFault old new text = Unit {0}
+AppendsText TooLong old new text = Unit {0}
+AppendsText OutOfMemory old new text = Unit {0}
+AppendsText WriteFault old new text = AppendsPrefix old new text
+AppendsText ScriptFault old new text = Appends old new text
+AppendsText Refused old new text = Appends old new text
+AppendsText Accepted old new text = Appends old new text
+
+-- Octets were consumed, to the end, that come to the status, and their session's text was appended.
+pub record SessionWritten (status : Status) (left_before left_after held_before held_after : Option (List ℕ)) : Type 0 where
+  pub octets : List ℕ
+  pub consumed : Consumes left_before left_after octets
+  pub at_end : IsAtEnd left_after
+  pub comes_to : IsStatusFor status octets
+  pub appended : AppendsText status held_before held_after (session octets)

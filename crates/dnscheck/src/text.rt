@@ -1,0 +1,95 @@
+//! The lines of the text, each appended by a function of its own.
+
+ghost use Rattle.std.specs.Prelude.{◌≡◌, ◌++◌, OnOk};
+ghost use Rattle.std.specs.List.{flat_map};
+ghost use Rattle.std.specs.String.{string_bytes};
+ghost use Rattle.dnscheck.specs.Text.{request_text, accepted_text, refused_text, set_text, fault_text, part_word, cause_word};
+
+use dns_wire::OutOfMemory;
+use sec_tsig::{FirstError, FirstSet};
+use std::alloc::Global;
+
+/// `request HEX`
+pub(crate) fn push_request(
+    alloc: Global,
+    text: &mut String,
+    octets: &[u8],
+) -> Result<(), OutOfMemory>
+    ensures { OnOk result (string_bytes text.new ≡ string_bytes text.old ++ request_text octets.now) }
+{
+    let hex = hex::encode(alloc, octets)?;
+    writeln!(text, "request {hex}")?;
+    Ok(())
+}
+
+/// `answer K ok N`
+pub(crate) fn push_accepted(text: &mut String, number: u64, sets: usize) -> Result<(), OutOfMemory>
+    ensures { OnOk result (string_bytes text.new ≡ string_bytes text.old ++ accepted_text number sets) }
+{
+    writeln!(text, "answer {number} ok {sets}")?;
+    Ok(())
+}
+
+/// `answer K CAUSE`
+pub(crate) fn push_refused(
+    text: &mut String,
+    number: u64,
+    cause: FirstError,
+) -> Result<(), OutOfMemory>
+    ensures { OnOk result (string_bytes text.new ≡ string_bytes text.old ++ refused_text number cause) }
+{
+    let word = cause_word(cause);
+    writeln!(text, "answer {number} {word}")?;
+    Ok(())
+}
+
+/// `PART OWNER CLASS TYPE PROOF`
+pub(crate) fn push_set(text: &mut String, set: &FirstSet) -> Result<(), OutOfMemory>
+    ensures { OnOk result (string_bytes text.new ≡ string_bytes text.old ++ set_text set.now) }
+{
+    let part = part_word(set.section);
+    let owner = set.owner;
+    let dns_class = set.dns_class;
+    let rtype = set.rtype;
+    writeln!(text, "{part} {owner} {dns_class} {rtype} Indeterminate")?;
+    Ok(())
+}
+
+/// A line for each set.
+pub(crate) fn push_sets(text: &mut String, sets: &[FirstSet]) -> Result<(), OutOfMemory>
+    ensures { OnOk result (string_bytes text.new ≡ string_bytes text.old ++ flat_map set_text sets.now) }
+{
+    'sets: for set in sets {
+        push_set(text, set)?;
+    }
+    Ok(())
+}
+
+/// `fault`
+pub(crate) fn push_fault(text: &mut String) -> Result<(), OutOfMemory>
+    ensures { OnOk result (string_bytes text.new ≡ string_bytes text.old ++ fault_text) }
+{
+    writeln!(text, "fault")?;
+    Ok(())
+}
+
+fn part_word(section: u8) -> &'static str
+    ensures { result.now ≡ part_word section }
+{
+    match section {
+        0 => "an",
+        1 => "ns",
+        _ => "ar",
+    }
+}
+
+fn cause_word(cause: FirstError) -> &'static str
+    ensures { result.now ≡ cause_word cause }
+{
+    match cause {
+        FirstError::Decode => "Decode",
+        FirstError::NotBuilt => "NotBuilt",
+        FirstError::Invalid => "Invalid",
+        FirstError::OutOfMemory => "OutOfMemory",
+    }
+}
