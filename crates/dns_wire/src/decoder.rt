@@ -157,6 +157,7 @@ impl<'a> BinDecoder<'a> {
         ensures octets { octets self.new ≡ octets self.old }
         ensures forward { place self.old ≤ place self.new }
         ensures inside { place self.new ≤ end }
+        ensures fits { IfOk result (λ octets. length octets.now < 2 ^ 8) }
     {
         let mut reader = *self;
         let count = reader.read_u8_within(end)?;
@@ -178,6 +179,7 @@ impl<'a> BinDecoder<'a> {
         ensures octets { octets self.new ≡ octets self.old }
         ensures forward { place self.old ≤ place self.new }
         ensures inside { place self.new ≤ end }
+        ensures fits { IfOk result (λ octets. length octets.now < 2 ^ 16) }
     {
         let mut reader = *self;
         let count = reader.read_u16_within(end)?;
@@ -199,6 +201,7 @@ impl<'a> BinDecoder<'a> {
         ensures octets { octets self.new ≡ octets self.old }
         ensures forward { place self.old ≤ place self.new }
         ensures inside { place self.new ≤ end }
+        ensures fits { IfOk result (λ time. time < 2 ^ 48) }
     {
         let octets = self.read_slice_within(6, end)?;
         let high = u16::from_be_bytes([octets[0], octets[1]]);

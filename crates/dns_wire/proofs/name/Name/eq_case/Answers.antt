@@ -1,6 +1,5 @@
-use Rattle.std.proofs.Common.{Bool, true, ◌≡◌, List, ℕ, ap, sym, ◌∙◌, ◌++◌, []}
+use Rattle.std.proofs.Common.{true, ◌≡◌, List, ℕ, ap, ◌++◌, []}
 use Rattle.std.proofs.lemmas.Slice.Eq.{bytes_eq-Decides}
-use Rattle.std.specs.Cmp.Lexicographic.{pointwise}
 use Rattle.std.specs.Str.{bytes_eq}
 use Rattle.dns_wire.specs.Names.{IsName, wire}
 use Rattle.dns_wire.specs.NameLaws.{same_from_wire}

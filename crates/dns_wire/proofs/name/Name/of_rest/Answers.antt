@@ -1,5 +1,5 @@
-use Rattle.std.proofs.Common.{List, ℕ, ap, ◌∙◌, sym, arith, length}
-use Rattle.dns_wire.specs.Names.{IsName, HoldsName, labels_in, wire}
+use Rattle.std.proofs.Common.{ap, ◌∙◌, arith, length}
+use Rattle.dns_wire.specs.Names.{IsName, labels_in, wire}
 use Rattle.dns_wire.specs.NameLaws.{holds_name, labels_in-padded}
 use Rattle.dns_wire.proofs.AboveBelow.{rest_padded}
 use Rattle.dns_wire.proofs.name.Name.of_rest.Goals as goal

@@ -1,4 +1,4 @@
-use Rattle.std.proofs.Common.{◌≡◌, ◌∷◌, ◌++◌, ◌∙◌, ap, sym, arith, length}
+use Rattle.std.proofs.Common.{◌∷◌, ◌++◌, ◌∙◌, ap, sym, arith, length}
 use Rattle.dns_wire.specs.Names.{IsName}
 use Rattle.dns_wire.proofs.AboveBelow.{NextFits, next_fits, name_with}
 use Rattle.dns_wire.proofs.name.Name.prepend.Goals as goal
