@@ -11,10 +11,10 @@ use Rattle.dns_wire.specs.Octets.{AreOctets, six_octets}
 use Rattle.dns_wire.specs.Names.{wire}
 use Rattle.dns_wire.specs.NameLaws.{length_lt-wire}
 use Rattle.dns_grammar.specs.Fields.{Size, One, Two, Four, width, limit, Kind, Number, Time, Fixed, Counted, Strings, Rest, Lowered, Kept, Value, Num, Str, Strs, Named, Field, Table, StringsAt, ValueAt, FieldsAt, counted_octets, strings_octets, value_octets, fields_octets}
-use Rattle.dns_grammar.specs.RecordData.{tsig_type, rdata_at}
-use Rattle.dns_grammar.specs.Laws.{Holds, HoldsAll, rest_is_last, ReadIsReadAgain, WrittenDataIsRead, ReadDataIsReadAgain}
+use Rattle.dns_grammar.specs.RecordData.{tsig_type, data_at, rdata_at}
+use Rattle.dns_grammar.specs.Laws.{Holds, HoldsAll, rest_is_last, ReadIsReadAgain, WrittenRowIsRead, ReadRowIsReadAgain, WrittenDataIsRead, ReadDataIsReadAgain}
 use Rattle.dns_wire.proofs.PlaceLaws.{name_of_octets}
-use Rattle.dns_grammar.proofs.DataLaws.{row_stands, rdata_stands}
+use Rattle.dns_grammar.proofs.DataLaws.{row_stands, row_is_read, rdata_stands}
 use Rattle.dns_grammar.proofs.ReadBack.{with_count, ok_octets, chose_octets, joins, written_reads}
 
 -- ---- octets stay octets
@@ -154,6 +154,21 @@ fields_some (f ∷ fs) m p e [] q x within s is none = absurd s
 
 positive : (n : ℕ) → n ≢ 0 → 0 < n
 positive n ne = omega arith
+
+pub written_row : (fields : List Field) → rest_is_last fields ≡ true → WrittenRowIsRead fields
+unfolding data_at
+written_row fields last values x front back holds lt is =
+    let fits : ltb (length (front ++ (x ++ back))) (length front + length x) ≡ false = le-ltb _ _ (omega (arith, length-append front (x ++ back), length-append x back)) in
+    let some : eqb (length x) 0 ≡ false = ne_eqb (length x) 0 (omega (arith, lt)) in
+    rw (fits, some, written_reads fields values x front back last holds is) refl
+
+pub read_row_again : (fields : List Field) → rest_is_last fields ≡ true → ReadRowIsReadAgain fields
+read_row_again fields last m p len values q octets read =
+    let s = (row_is_read fields m p len values q).0 read in
+    let c = can_write_all fields m p (p + len) values (p + len) octets s.0.filled in
+    let lt : 0 < len = s.0.nonempty in
+    let some : 0 < length c.octets = positive (length c.octets) (λ none. absurd (omega (arith, lt, fields_some fields m p (p + len) values (p + len) c.octets s.0.within s.0.filled c.written none))) in
+    (c.octets, c.written, λ front back. written_row fields last values c.octets front back c.holds some c.written)
 
 pub written_data : (table : Table) → WrittenDataIsRead table
 unfolding rdata_at

@@ -83,6 +83,19 @@ abbrev pub ReadIsReadAgain : List Field → Type 0
 ReadIsReadAgain fields = (m : List ℕ) (p e : ℕ) (values : List Value) → AreOctets m → e ≤ length m → row_at fields m p e ≡ Ok values
     → (x : List ℕ) × (fields_octets false fields values ≡ Ok x) × ((front back : List ℕ) → row_at fields (front ++ (x ++ back)) (length front) (length front + length x) ≡ Ok values)
 
+-- What is written of the values of one known type, which is not empty, is read as data of the type with these values, wherever it stands.
+abbrev pub WrittenRowIsRead : List Field → Type 0
+WrittenRowIsRead fields = (values : List Value) (x front back : List ℕ) → HoldsAll fields values → 0 < length x → fields_octets false fields values ≡ Ok x
+    → data_at fields (front ++ (x ++ back)) (length front) (length x) ≡ Ok (values, length front + length x)
+
+-- These values of one known type can be written, and what is written of them is read as data of the type with these values.
+abbrev pub AreReadBack : List Field → List Value → Type 0
+AreReadBack fields values = (x : List ℕ) × (fields_octets false fields values ≡ Ok x) × ((front back : List ℕ) → data_at fields (front ++ (x ++ back)) (length front) (length x) ≡ Ok (values, length front + length x))
+
+-- Data of one known type that were read can be written, and what is written of them is read as the same data.
+abbrev pub ReadRowIsReadAgain : List Field → Type 0
+ReadRowIsReadAgain fields = (m : List ℕ) (p len : ℕ) (values : List Value) (q : ℕ) → AreOctets m → data_at fields m p len ≡ Ok (values, q) → AreReadBack fields values
+
 -- record data that a record of this type may hold, and whose octets are not mistaken for empty data
 abbrev pub HoldsData : Table → ℕ → Option (List Value) → List ℕ → Type 0
 HoldsData table rtype None x = rtype ≢ tsig_type

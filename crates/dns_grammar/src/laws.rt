@@ -2,8 +2,9 @@
 ghost use Rattle.std.specs.Prelude.{IsTrue, List, ℕ};
 ghost use Rattle.dns_grammar.specs.Fields.{Field, Table};
 ghost use Rattle.dns_grammar.specs.Tables.{IsTable, short_table};
+ghost use Rattle.dns_grammar.specs.KeyRows.{key_table};
 ghost use Rattle.dns_grammar.specs.Extents.{SignatureStartsInside, OneStart};
-ghost use Rattle.dns_grammar.specs.Laws.{RowIsReadWhereItStands, DataIsReadWhereItStands, OneData, MessageIsReadWhereItStands, OneMessage, OutlineIsOfMessage, SignatureIsWhole, rest_is_last, WrittenIsRead, WrittenDataIsRead, WrittenRecordIsRead, ReadIsReadAgain, ReadDataIsReadAgain, CanonicalIsPlain, AgreeingHaveOneForm};
+ghost use Rattle.dns_grammar.specs.Laws.{RowIsReadWhereItStands, DataIsReadWhereItStands, OneData, MessageIsReadWhereItStands, OneMessage, OutlineIsOfMessage, SignatureIsWhole, rest_is_last, WrittenIsRead, WrittenRowIsRead, WrittenDataIsRead, WrittenRecordIsRead, ReadIsReadAgain, ReadRowIsReadAgain, ReadDataIsReadAgain, CanonicalIsPlain, AgreeingHaveOneForm};
 
 /// Record data are read exactly where they stand, and at most one stand at a place.
 pub fn data_are_read_where_they_stand()
@@ -30,14 +31,16 @@ pub fn signature_is_whole()
 
 /// What is written of values, of record data and of a record is read as the same.
 pub fn written_is_read()
-    ensures row { (fields : List Field) → IsTrue (rest_is_last fields) → WrittenIsRead fields }
+    ensures fields { (fields : List Field) → IsTrue (rest_is_last fields) → WrittenIsRead fields }
+    ensures row { (fields : List Field) → IsTrue (rest_is_last fields) → WrittenRowIsRead fields }
     ensures data { (table : Table) → WrittenDataIsRead table }
     ensures record { (table : Table) → WrittenRecordIsRead table }
 {}
 
 /// Values and record data that were read can be written, and are then read again.
 pub fn read_is_read_again()
-    ensures row { (fields : List Field) → IsTrue (rest_is_last fields) → ReadIsReadAgain fields }
+    ensures fields { (fields : List Field) → IsTrue (rest_is_last fields) → ReadIsReadAgain fields }
+    ensures row { (fields : List Field) → IsTrue (rest_is_last fields) → ReadRowIsReadAgain fields }
     ensures data { (table : Table) → ReadDataIsReadAgain table }
 {}
 
@@ -58,4 +61,10 @@ pub fn one_start()
 pub fn short_table_is_table()
     ensures tsig { IsTable short_table }
     ensures rest { (rtype : ℕ) → IsTrue (rest_is_last (short_table rtype)) }
+{}
+
+/// The table of keys knows transaction signatures, and no field before the last takes all that is left.
+pub fn key_table_is_table()
+    ensures tsig { IsTable key_table }
+    ensures rest { (rtype : ℕ) → IsTrue (rest_is_last (key_table rtype)) }
 {}
