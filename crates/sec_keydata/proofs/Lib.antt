@@ -1,0 +1,5 @@
+mod KnownFlags
+mod TheirFields
+mod TheirFlags
+mod WrittenDigests
+mod WrittenKeys

@@ -1,0 +1,58 @@
+-- The flags and the protocol of a KEY record (RFC 2535 3.1.2, 3.1.3; RFC 2137 3.1.1).
+use Rattle.std.specs.Prelude.{ℕ, ◌+◌, ◌*◌, ◌^◌, ◌==◌, Bool, List, [], ◌∷◌, if◌then◌else◌}
+use Rattle.sec_keydata.specs.declared.key_uses.KeyTrust.{KeyTrust}
+use Rattle.sec_keydata.specs.declared.key_uses.KeyTrust.TheVariants as trusts
+use Rattle.sec_keydata.specs.declared.key_uses.KeyUsage.{KeyUsage}
+use Rattle.sec_keydata.specs.declared.key_uses.KeyUsage.TheVariants as usages
+use Rattle.sec_keydata.specs.declared.key_uses.UpdateScope.{UpdateScope}
+use Rattle.sec_keydata.specs.declared.protocol.Protocol.{Protocol}
+use Rattle.sec_keydata.specs.declared.protocol.Protocol.TheVariants as protocols
+
+-- the number in the two highest bits of the flags
+abbrev pub trust_code : KeyTrust → ℕ
+trust_code trusts.AuthOrPrivate = 0
+trust_code trusts.NotPrivate = 1
+trust_code trusts.NotAuth = 2
+trust_code trusts.DoNotTrust = 3
+
+-- the number in bits 6 and 7 of the flags, the highest bit being bit 0
+abbrev pub usage_code : KeyUsage → ℕ
+usage_code usages.Host = 0
+usage_code usages.Zone = 1
+usage_code usages.Entity = 2
+usage_code usages.Reserved = 3
+
+-- a number where a bit is set, and else 0
+abbrev pub bit_value : Bool → ℕ → ℕ
+bit_value bit n = if bit then n else 0
+
+-- the number in the four lowest bits of the flags
+abbrev pub scope_bits : UpdateScope → ℕ
+scope_bits scope = bit_value scope.zone 8 + bit_value scope.strong 4 + bit_value scope.unique 2 + bit_value scope.general 1
+
+-- the flags that say these three, and no more
+abbrev pub all_flags : KeyTrust → KeyUsage → UpdateScope → ℕ
+all_flags trust usage scope = trust_code trust * 2 ^ 14 + usage_code usage * 2 ^ 8 + scope_bits scope
+
+-- the number of a protocol
+abbrev pub protocol_number : Protocol → ℕ
+protocol_number protocols.Reserved = 0
+protocol_number protocols.TLS = 1
+protocol_number protocols.Email = 2
+protocol_number protocols.DNSSEC = 3
+protocol_number protocols.IPSec = 4
+protocol_number protocols.All = 255
+protocol_number (protocols.Other n) = n
+
+-- the protocols that have a name
+abbrev pub named_protocols : List Protocol
+named_protocols = protocols.Reserved ∷ protocols.TLS ∷ protocols.Email ∷ protocols.DNSSEC ∷ protocols.IPSec ∷ protocols.All ∷ []
+
+-- the first of a list that has a number, and where none has it the other protocol of that number
+abbrev pub numbered_protocol : List Protocol → ℕ → Protocol
+numbered_protocol [] n = protocols.Other n
+numbered_protocol (protocol ∷ rest) n = if protocol_number protocol == n then protocol else numbered_protocol rest n
+
+-- the protocol of a number
+abbrev pub protocol_of : ℕ → Protocol
+protocol_of = numbered_protocol named_protocols

@@ -1,0 +1,76 @@
+//! The fields of DS and CDS data (RFC 4034 5.1, RFC 7344 3.1).
+ghost use Rattle.std.specs.Prelude.{◌≡◌, ◌≤◌, length, Some};
+ghost use Rattle.dns_wire.specs.Reading.{octets, place, Gives};
+ghost use Rattle.dns_wire.specs.Writing.{Writes};
+ghost use Rattle.dns_grammar.specs.Fields.{fields_octets};
+ghost use Rattle.dns_grammar.specs.RecordData.{row_at};
+ghost use Rattle.dns_grammar.specs.KeyRows.{ds_row};
+ghost use Rattle.sec_keydata.specs.Digests.{fields_values, fields_text};
+
+use crate::upper_hex::UpperHex;
+use dns_grammar::{Part, emit_parts};
+use dns_wire::{BinDecoder, BinEncoder, DecodeError, EmitError};
+use std::fmt;
+
+/// The fields: key tag, number of the algorithm, number of the digest type, digest.
+#[derive(Clone, Copy)]
+pub(crate) struct DigestFields<'a> {
+    pub(crate) key_tag: u16,
+    pub(crate) algorithm: u8,
+    pub(crate) digest_type: u8,
+    pub(crate) digest: &'a [u8],
+}
+
+impl<'a> DigestFields<'a> {
+    /// Reads the fields of data that end at `end`.
+    #[tactic(auto, unfolding(dns_grammar::specs::RecordData::row_at))]
+    pub(crate) fn read_within(
+        mut reader: BinDecoder<'a>,
+        end: usize,
+    ) -> Result<DigestFields<'a>, DecodeError>
+        requires ahead { place reader ≤ end }
+        requires inside { end ≤ length (octets reader) }
+        ensures exact { Gives fields_values result (row_at ds_row (octets reader.entry) (place reader.entry) end) }
+    {
+        let key_tag = reader.read_u16_within(end)?;
+        let algorithm = reader.read_u8_within(end)?;
+        let digest_type = reader.read_u8_within(end)?;
+        let digest = reader.read_rest_within(end);
+        Ok(DigestFields {
+            key_tag,
+            algorithm,
+            digest_type,
+            digest,
+        })
+    }
+
+    /// Writes the fields.
+    pub(crate) fn emit(&self, encoder: &mut BinEncoder) -> Result<(), EmitError>
+        ensures { Writes result encoder.old encoder.new (fields_octets encoder.old.canonical_form ds_row (fields_values self.now)) }
+    {
+        emit_parts(
+            encoder,
+            &[
+                Part::U16(self.key_tag),
+                Part::U8(self.algorithm),
+                Part::U8(self.digest_type),
+                Part::Octets(self.digest),
+            ],
+        )
+    }
+}
+
+impl fmt::Display for DigestFields<'_> {
+    ghost output = { λ fields. Some (fields_text fields) };
+
+    fn fmt<W: fmt::Write>(&self, f: &mut fmt::Formatter<W>) -> fmt::Result {
+        write!(
+            f,
+            "{} {} {} {}",
+            self.key_tag,
+            self.algorithm,
+            self.digest_type,
+            UpperHex(self.digest)
+        )
+    }
+}

@@ -1,0 +1,165 @@
+//! DNSKEY records.
+ghost use Rattle.std.specs.Prelude.{◌≡◌, Some, IfOk};
+ghost use Rattle.dns_wire.specs.Reading.{ReadsUnless};
+ghost use Rattle.dns_grammar.specs.Fields.{fields_octets};
+ghost use Rattle.dns_grammar.specs.RecordData.{data_at};
+ghost use Rattle.dns_grammar.specs.KeyRows.{dnskey_row};
+ghost use Rattle.sec_codes.specs.KeptKeys.{kept_key};
+ghost use Rattle.sec_keydata.specs.DnsKeyFlags as specs;
+ghost use Rattle.sec_keydata.specs.DnsKeys.{dnskey_data, dnskey_values, dnskey_text, DnsKeyIsNamed};
+
+use crate::base64_text::Base64Text;
+use crate::dnskey_flags::{flags_of, is_revoked, is_secure_entry_point, is_zone_key};
+use dns_grammar::{Part, data_end, emit_parts};
+use dns_wire::{
+    BinDecoder, BinEncodable, BinEncoder, DecodeError, EmitError, OutOfMemory, RecordDataDecodable,
+};
+use sec_codes::{Algorithm, PublicKey, PublicKeyBuf};
+use std::alloc::Global;
+use std::fmt;
+
+/// A public key of a zone (RFC 4034 2). A contract sees the flags and the key, by `dnskey_data`.
+#[derive(Debug, PartialEq, Eq, Hash, Drop)]
+pub struct DNSKEY {
+    flags: u16,
+    public_key: PublicKeyBuf,
+}
+
+impl DNSKEY {
+    /// A key with these flags alone.
+    pub fn new(
+        zone_key: bool,
+        secure_entry_point: bool,
+        revoke: bool,
+        public_key: PublicKeyBuf,
+    ) -> DNSKEY
+        ensures { dnskey_data result ≡ record { flags = specs.flags_of zone_key secure_entry_point revoke; public_key = kept_key public_key } }
+    {
+        DNSKEY::with_flags(flags_of(zone_key, secure_entry_point, revoke), public_key)
+    }
+
+    /// A key with these flags, all sixteen bits of them.
+    pub fn with_flags(flags: u16, public_key: PublicKeyBuf) -> DNSKEY
+        ensures { dnskey_data result ≡ record { flags = flags; public_key = kept_key public_key } }
+    {
+        DNSKEY { flags, public_key }
+    }
+
+    /// Whether the key is one of a zone (RFC 4034 2.1.1).
+    pub fn zone_key(&self) -> bool
+        ensures { result ≡ specs.is_zone_key (dnskey_data self.now).flags }
+    {
+        is_zone_key(self.flags)
+    }
+
+    /// Whether the key is meant as a secure entry point (RFC 4034 2.1.1).
+    pub fn secure_entry_point(&self) -> bool
+        ensures { result ≡ specs.is_secure_entry_point (dnskey_data self.now).flags }
+    {
+        is_secure_entry_point(self.flags)
+    }
+
+    /// Whether the key is one of a zone and a secure entry point, and not revoked.
+    pub fn is_key_signing_key(&self) -> bool
+        ensures { result ≡ specs.is_key_signing_key (dnskey_data self.now).flags }
+    {
+        self.zone_key() && self.secure_entry_point() && !self.revoke()
+    }
+
+    /// Whether the key is revoked (RFC 5011 3).
+    pub fn revoke(&self) -> bool
+        ensures { result ≡ specs.is_revoked (dnskey_data self.now).flags }
+    {
+        is_revoked(self.flags)
+    }
+
+    /// The key.
+    pub fn public_key(&self) -> &PublicKeyBuf
+        ensures { kept_key result.now ≡ (dnskey_data self.now).public_key }
+    {
+        &self.public_key
+    }
+
+    /// The flags, all sixteen bits of them.
+    pub fn flags(&self) -> u16
+        ensures { result ≡ (dnskey_data self.now).flags }
+    {
+        self.flags
+    }
+
+    /// A copy of the key.
+    ///
+    /// # Errors
+    ///
+    /// Want of memory.
+    pub fn try_clone(&self) -> Result<DNSKEY, OutOfMemory>
+        ensures { IfOk result (λ copy. dnskey_data copy ≡ dnskey_data self.now) }
+    {
+        Ok(DNSKEY {
+            flags: self.flags,
+            public_key: self.public_key.try_clone()?,
+        })
+    }
+}
+
+impl<'r> RecordDataDecodable<'r> for DNSKEY {
+    ghost is_read = { λ len m p result q. ReadsUnless (λ key. dnskey_values (dnskey_data key)) result p q (data_at dnskey_row m p len) × IfOk result (λ key. DnsKeyIsNamed (dnskey_data key)) };
+
+    /// Reads flags, protocol, algorithm and key.
+    ///
+    /// # Errors
+    ///
+    /// `InsufficientBytes` where an octet is needed past the data, `DnsKeyProtocolNot3`, or `OutOfMemory`.
+    #[tactic(auto, unfolding(dns_grammar::specs::RecordData::data_at, dns_grammar::specs::RecordData::row_at))]
+    fn read_data(
+        alloc: Global,
+        decoder: &mut BinDecoder<'r>,
+        length: u16,
+    ) -> Result<DNSKEY, DecodeError> {
+        let end = data_end(decoder, length)?;
+        let mut reader = *decoder;
+        let flags = reader.read_u16_within(end)?;
+        let protocol = reader.read_u8_within(end)?;
+        if protocol != 3 {
+            return Err(DecodeError::DnsKeyProtocolNot3(protocol));
+        }
+        let algorithm = Algorithm::from_u8(reader.read_u8_within(end)?);
+        let key = Vec::from_slice(alloc, reader.read_rest_within(end))?;
+        *decoder = reader;
+        Ok(DNSKEY {
+            flags,
+            public_key: PublicKeyBuf::new(key, algorithm),
+        })
+    }
+}
+
+impl BinEncodable for DNSKEY {
+    ghost written = { λ canonical _ key. fields_octets canonical dnskey_row (dnskey_values (dnskey_data key)) };
+
+    fn emit(&self, encoder: &mut BinEncoder) -> Result<(), EmitError> {
+        emit_parts(
+            encoder,
+            &[
+                Part::U16(self.flags),
+                Part::U8(3),
+                Part::U8(self.public_key.algorithm().into()),
+                Part::Octets(self.public_key.public_bytes()),
+            ],
+        )
+    }
+}
+
+/// Flags, `3`, algorithm number, key in base64 (RFC 4034 2.2).
+impl fmt::Display for DNSKEY {
+    ghost output = { λ key. Some (dnskey_text (dnskey_data key)) };
+
+    fn fmt<W: fmt::Write>(&self, f: &mut fmt::Formatter<W>) -> fmt::Result {
+        write!(
+            f,
+            "{} 3 {} {}",
+            self.flags,
+            u8::from(self.public_key.algorithm()),
+            Base64Text(self.public_key.public_bytes())
+        )
+    }
+}

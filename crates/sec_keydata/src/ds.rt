@@ -1,0 +1,143 @@
+//! DS records: the digest of a zone's key, in the zone above it (RFC 4034 5).
+ghost use Rattle.std.specs.Prelude.{◌≡◌, Some, IfOk};
+ghost use Rattle.dns_grammar.specs.Fields.{fields_octets};
+ghost use Rattle.dns_grammar.specs.KeyRows.{ds_row};
+ghost use Rattle.sec_keydata.specs.Digests.{ds_data, ds_values, ds_text, fields_values, fields_text, ds_is_read};
+
+use crate::digest_fields::DigestFields;
+use dns_grammar::data_end;
+use dns_wire::{
+    BinDecoder, BinEncodable, BinEncoder, DecodeError, EmitError, Octets, OutOfMemory,
+    RecordDataDecodable,
+};
+use sec_codes::Algorithm;
+use sec_digest::DigestType;
+use std::alloc::Global;
+use std::fmt;
+
+/// The digest of a key. A contract sees its parts, by `ds_data`.
+#[derive(Debug, PartialEq, Eq, Hash, Drop)]
+pub struct DS {
+    key_tag: u16,
+    algorithm: Algorithm,
+    digest_type: DigestType,
+    digest: Octets,
+}
+
+impl DS {
+    /// The digest of a key with this tag and algorithm (RFC 4034 5.1).
+    pub fn new(key_tag: u16, algorithm: Algorithm, digest_type: DigestType, digest: Vec<u8>) -> DS
+        ensures { ds_data result ≡ record { key_tag = key_tag; algorithm = algorithm; digest_type = digest_type; digest = digest.items } }
+    {
+        DS {
+            key_tag,
+            algorithm,
+            digest_type,
+            digest: Octets::from_vec(digest),
+        }
+    }
+
+    /// The tag of the key (RFC 4034 5.1.1).
+    pub fn key_tag(&self) -> u16
+        ensures { result ≡ (ds_data self.now).key_tag }
+    {
+        self.key_tag
+    }
+
+    /// The algorithm of the key (RFC 4034 5.1.2).
+    pub fn algorithm(&self) -> Algorithm
+        ensures { result ≡ (ds_data self.now).algorithm }
+    {
+        self.algorithm
+    }
+
+    /// The type of the digest (RFC 4034 5.1.3).
+    pub fn digest_type(&self) -> DigestType
+        ensures { result ≡ (ds_data self.now).digest_type }
+    {
+        self.digest_type
+    }
+
+    /// The octets of the digest (RFC 4034 5.1.4).
+    pub fn digest(&self) -> &[u8]
+        ensures { result.now ≡ (ds_data self.now).digest }
+    {
+        self.digest.as_slice()
+    }
+
+    /// A copy of the data.
+    ///
+    /// # Errors
+    ///
+    /// Want of memory.
+    pub fn try_clone(&self) -> Result<DS, OutOfMemory>
+        ensures { IfOk result (λ copy. copy ≡ self.now) }
+    {
+        Ok(DS {
+            key_tag: self.key_tag,
+            algorithm: self.algorithm,
+            digest_type: self.digest_type,
+            digest: self.digest.try_clone()?,
+        })
+    }
+
+    /// The fields of the data.
+    fn fields(&self) -> DigestFields<'_>
+        ensures values { fields_values result ≡ ds_values (ds_data self.now) }
+        ensures text { fields_text result ≡ ds_text (ds_data self.now) }
+    {
+        DigestFields {
+            key_tag: self.key_tag,
+            algorithm: self.algorithm.into(),
+            digest_type: self.digest_type.into(),
+            digest: self.digest.as_slice(),
+        }
+    }
+}
+
+impl<'r> RecordDataDecodable<'r> for DS {
+    ghost is_read = { ds_is_read };
+
+    /// Reads key tag, algorithm, digest type and digest.
+    ///
+    /// # Errors
+    ///
+    /// `InsufficientBytes` where an octet is needed past the data, or `OutOfMemory`.
+    #[tactic(auto, unfolding(dns_grammar::specs::RecordData::data_at))]
+    fn read_data(
+        alloc: Global,
+        decoder: &mut BinDecoder<'r>,
+        length: u16,
+    ) -> Result<DS, DecodeError> {
+        let end = data_end(decoder, length)?;
+        let fields = DigestFields::read_within(*decoder, end)?;
+        let digest = Octets::from_slice(alloc, fields.digest)?;
+        decoder.set_index(end);
+        Ok(DS {
+            key_tag: fields.key_tag,
+            algorithm: Algorithm::from_u8(fields.algorithm),
+            digest_type: DigestType::from(fields.digest_type),
+            digest,
+        })
+    }
+}
+
+impl BinEncodable for DS {
+    ghost written = { λ canonical _ ds. fields_octets canonical ds_row (ds_values (ds_data ds)) };
+
+    fn emit(&self, encoder: &mut BinEncoder) -> Result<(), EmitError> {
+        self.fields().emit(encoder)
+    }
+}
+
+/// Key tag, algorithm number, digest type number, digest in upper-case hexadecimal (RFC 4034 5.3).
+impl fmt::Display for DS {
+    ghost output = { λ ds. Some (ds_text (ds_data ds)) };
+
+    fn fmt<W: fmt::Write>(&self, f: &mut fmt::Formatter<W>) -> fmt::Result {
+        write!(f, "{}", self.fields())
+    }
+}
+
+#[cfg(test)]
+mod tests;

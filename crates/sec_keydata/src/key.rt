@@ -1,0 +1,199 @@
+//! KEY records: keys of other uses than DNSSEC's (RFC 2535 3, RFC 3445).
+ghost use Rattle.std.specs.Prelude.{◌≡◌, ◌↔◌, ◌/◌, ◌%◌, ◌^◌, Some, IfOk, IsTrue};
+ghost use Rattle.dns_grammar.specs.Fields.{Num, no_fault, fields_octets};
+ghost use Rattle.dns_grammar.specs.KeyRows.{key_flags_fault, key_row};
+ghost use Rattle.sec_keydata.specs.KeyUses.{trust_code, usage_code, scope_bits, all_flags};
+ghost use Rattle.sec_keydata.specs.KeyData.{key_data, key_values, key_text, key_is_read};
+
+use crate::base64_text::Base64Text;
+use crate::key_uses::{KeyTrust, KeyUsage, UpdateScope};
+use crate::protocol::Protocol;
+use dns_grammar::{Part, data_end, emit_parts};
+use dns_wire::{
+    BinDecoder, BinEncodable, BinEncoder, DecodeError, EmitError, Octets, OutOfMemory,
+    RecordDataDecodable,
+};
+use sec_codes::Algorithm;
+use std::alloc::Global;
+use std::fmt;
+
+/// Whether flags have no reserved bit, and don't say that more flags follow (RFC 2535 3.1.2).
+fn check_flags(flags: u16) -> Result<(), DecodeError>
+    ensures { result ≡ no_fault (key_flags_fault (Num flags)) }
+{
+    if flags & 0x2cf0 != 0 {
+        return Err(DecodeError::KeyFlagsReserved(flags));
+    }
+    if flags & 0x1000 != 0 {
+        return Err(DecodeError::ExtendedKeyFlagsUnsupported(flags));
+    }
+    Ok(())
+}
+
+/// A public key. A contract sees its parts, by `key_data`.
+#[derive(Debug, PartialEq, Eq, Hash, Drop)]
+pub struct KEY {
+    flags: u16,
+    protocol: Protocol,
+    algorithm: Algorithm,
+    public_key: Octets,
+}
+
+impl KEY {
+    /// A key with the flags of these three, and no other flag.
+    pub fn new(
+        key_trust: KeyTrust,
+        key_usage: KeyUsage,
+        signatory: UpdateScope,
+        protocol: Protocol,
+        algorithm: Algorithm,
+        public_key: Vec<u8>,
+    ) -> KEY
+        ensures { key_data result ≡ record { flags = all_flags key_trust key_usage signatory; protocol = protocol; algorithm = algorithm; public_key = public_key.items } }
+    {
+        KEY {
+            flags: u16::from(key_trust) + u16::from(key_usage) + u16::from(signatory),
+            protocol,
+            algorithm,
+            public_key: Octets::from_vec(public_key),
+        }
+    }
+
+    /// What the key may be used for.
+    pub fn key_trust(&self) -> KeyTrust
+        ensures { trust_code result ≡ (key_data self.now).flags / 2 ^ 14 % 4 }
+    {
+        KeyTrust::from(self.flags)
+    }
+
+    /// Whose key it is.
+    pub fn key_usage(&self) -> KeyUsage
+        ensures { usage_code result ≡ (key_data self.now).flags / 2 ^ 8 % 4 }
+    {
+        KeyUsage::from(self.flags)
+    }
+
+    /// Which updates the key may sign.
+    pub fn signatory(&self) -> UpdateScope
+        ensures { scope_bits result ≡ (key_data self.now).flags % 16 }
+    {
+        UpdateScope::from(self.flags)
+    }
+
+    /// Whether there is no key (RFC 2535 3.1.2), which is so where the two highest flags are set.
+    pub fn revoke(&self) -> bool
+        ensures { IsTrue result ↔ ((key_data self.now).flags / 2 ^ 14 % 4 ≡ trust_code KeyTrust.DoNotTrust) }
+    {
+        self.key_trust() == KeyTrust::DoNotTrust
+    }
+
+    /// The protocol that the key is for.
+    pub fn protocol(&self) -> Protocol
+        ensures { result ≡ (key_data self.now).protocol }
+    {
+        self.protocol
+    }
+
+    /// The algorithm of the key.
+    pub fn algorithm(&self) -> Algorithm
+        ensures { result ≡ (key_data self.now).algorithm }
+    {
+        self.algorithm
+    }
+
+    /// The octets of the key.
+    pub fn public_key(&self) -> &[u8]
+        ensures { result.now ≡ (key_data self.now).public_key }
+    {
+        self.public_key.as_slice()
+    }
+
+    /// All flags.
+    pub fn flags(&self) -> u16
+        ensures { result ≡ (key_data self.now).flags }
+    {
+        self.flags
+    }
+
+    /// A copy of the data.
+    ///
+    /// # Errors
+    ///
+    /// Want of memory.
+    pub fn try_clone(&self) -> Result<KEY, OutOfMemory>
+        ensures { IfOk result (λ copy. copy ≡ self.now) }
+    {
+        Ok(KEY {
+            flags: self.flags,
+            protocol: self.protocol,
+            algorithm: self.algorithm,
+            public_key: self.public_key.try_clone()?,
+        })
+    }
+}
+
+impl<'r> RecordDataDecodable<'r> for KEY {
+    ghost is_read = { key_is_read };
+
+    /// Reads flags, protocol, algorithm and key.
+    ///
+    /// # Errors
+    ///
+    /// `InsufficientBytes` where an octet is needed past the data, `KeyFlagsReserved` or `ExtendedKeyFlagsUnsupported`, or `OutOfMemory`.
+    #[tactic(auto, unfolding(dns_grammar::specs::RecordData::data_at, dns_grammar::specs::RecordData::row_at))]
+    fn read_data(
+        alloc: Global,
+        decoder: &mut BinDecoder<'r>,
+        length: u16,
+    ) -> Result<KEY, DecodeError> {
+        let end = data_end(decoder, length)?;
+        let mut reader = *decoder;
+        let flags = reader.read_u16_within(end)?;
+        check_flags(flags)?;
+        let protocol = reader.read_u8_within(end)?;
+        let algorithm = reader.read_u8_within(end)?;
+        let public_key = Octets::from_slice(alloc, reader.read_rest_within(end))?;
+        *decoder = reader;
+        Ok(KEY {
+            flags,
+            protocol: Protocol::from(protocol),
+            algorithm: Algorithm::from_u8(algorithm),
+            public_key,
+        })
+    }
+}
+
+impl BinEncodable for KEY {
+    ghost written = { λ canonical _ key. fields_octets canonical key_row (key_values (key_data key)) };
+
+    fn emit(&self, encoder: &mut BinEncoder) -> Result<(), EmitError> {
+        emit_parts(
+            encoder,
+            &[
+                Part::U16(self.flags),
+                Part::U8(self.protocol.into()),
+                Part::U8(self.algorithm.into()),
+                Part::Octets(self.public_key.as_slice()),
+            ],
+        )
+    }
+}
+
+/// Flags, protocol number, name of the algorithm, key in base64 (RFC 2535 7.1).
+impl fmt::Display for KEY {
+    ghost output = { λ key. Some (key_text (key_data key)) };
+
+    fn fmt<W: fmt::Write>(&self, f: &mut fmt::Formatter<W>) -> fmt::Result {
+        write!(
+            f,
+            "{} {} {} {}",
+            self.flags,
+            u8::from(self.protocol),
+            self.algorithm,
+            Base64Text(self.public_key.as_slice())
+        )
+    }
+}
+
+#[cfg(test)]
+mod tests;

@@ -1,0 +1,62 @@
+//! Laws of the definitions. Nothing calls these functions.
+ghost use Rattle.std.specs.Prelude.{◌≡◌, ◌<◌, ◌^◌, ◌*◌, ◌+◌, ◌/◌, ◌%◌, ℕ, List, None};
+ghost use Rattle.dns_grammar.specs.Fields.{Num, Str};
+ghost use Rattle.dns_grammar.specs.KeyRows.{dnskey_row, ds_row, key_row, key_flags_fault};
+ghost use Rattle.dns_grammar.specs.Laws.{AreReadBack};
+ghost use Rattle.sec_keydata.specs.DnsKeyFlags.{flags_of, is_zone_key, is_secure_entry_point, is_revoked};
+ghost use Rattle.sec_keydata.specs.DnsKeys.{public_key_values};
+ghost use Rattle.sec_keydata.specs.Digests.{DsData, CdsData, digest_values, ds_values, cds_values, DsIsNamed, CdsIsNamed};
+ghost use Rattle.sec_keydata.specs.KeyData.{KeyData, key_fields, key_values, KeyIsNamed};
+ghost use Rattle.sec_keydata.specs.KeyUses.{trust_code, usage_code, scope_bits, all_flags, protocol_number, protocol_of};
+
+/// The flags that are made of three answers give these answers.
+pub fn flags_are_kept(zone_key: bool, secure_entry_point: bool, revoke: bool)
+    ensures zone_key { is_zone_key (flags_of zone_key secure_entry_point revoke) ≡ zone_key }
+    ensures secure_entry_point { is_secure_entry_point (flags_of zone_key secure_entry_point revoke) ≡ secure_entry_point }
+    ensures revoke { is_revoked (flags_of zone_key secure_entry_point revoke) ≡ revoke }
+{}
+
+/// What is written of a DNSKEY or of a CDNSKEY, whatever its flags, its algorithm and its key, is read as data of the same fields.
+#[tactic(auto, using(crate::proofs::WrittenKeys::read_back))]
+pub fn keys_are_read_back()
+    ensures { (flags algorithm : ℕ) (octets : List ℕ) → flags < 2 ^ 16 → algorithm < 2 ^ 8 → AreReadBack dnskey_row (public_key_values flags algorithm octets) }
+{}
+
+/// What is written of a DS or of a CDS is read as data of the same fields.
+#[tactic(auto, using(crate::proofs::WrittenDigests::digests_back))]
+pub fn digests_are_read_back()
+    ensures { (tag algorithm kind : ℕ) (digest : List ℕ) → tag < 2 ^ 16 → algorithm < 2 ^ 8 → kind < 2 ^ 8 → AreReadBack ds_row (digest_values tag algorithm kind digest) }
+{}
+
+/// What is written of a KEY, whose flags have no fault, is read as data of the same fields.
+#[tactic(auto, using(crate::proofs::WrittenDigests::other_keys_back))]
+pub fn other_keys_are_read_back()
+    ensures { (flags protocol algorithm : ℕ) (octets : List ℕ) → flags < 2 ^ 16 → key_flags_fault (Num flags) ≡ None → protocol < 2 ^ 8 → algorithm < 2 ^ 8 → AreReadBack key_row (key_fields flags protocol algorithm octets) }
+{}
+
+/// Data whose algorithm, digest type and protocol are those of their numbers are told by their fields.
+#[tactic(auto, using(crate::proofs::TheirFields::ds_told, crate::proofs::TheirFields::cds_told, crate::proofs::TheirFields::key_told))]
+pub fn fields_tell_data()
+    ensures ds { (x y : DsData) → DsIsNamed x → DsIsNamed y → ds_values x ≡ ds_values y → x ≡ y }
+    ensures cds { (x y : CdsData) → CdsIsNamed x → CdsIsNamed y → cds_values x ≡ cds_values y → x ≡ y }
+    ensures key { (x y : KeyData) → KeyIsNamed x → KeyIsNamed y → key_values x ≡ key_values y → x ≡ y }
+{}
+
+/// A number is that of its protocol.
+pub fn protocol_numbers_are_kept()
+    ensures { (n : ℕ) → protocol_number (protocol_of n) ≡ n }
+{}
+
+/// The flags that are made of trust, usage and scope give these three.
+#[tactic(auto, using(crate::proofs::TheirFlags::trust_kept, crate::proofs::TheirFlags::usage_kept, crate::proofs::TheirFlags::scope_kept))]
+pub fn key_uses_are_kept()
+    ensures trust { (t : _) (u : _) (s : _) → all_flags t u s / 2 ^ 14 % 4 ≡ trust_code t }
+    ensures usage { (t : _) (u : _) (s : _) → all_flags t u s / 2 ^ 8 % 4 ≡ usage_code u }
+    ensures scope { (t : _) (u : _) (s : _) → all_flags t u s % 16 ≡ scope_bits s }
+{}
+
+/// Flags without fault are the sum of the bits that tell trust, usage and scope.
+#[tactic(auto, using(crate::proofs::KnownFlags::known_flags))]
+pub fn known_flags_are_all()
+    ensures { (n : ℕ) → n < 2 ^ 16 → key_flags_fault (Num n) ≡ None → n ≡ n / 2 ^ 14 % 4 * 2 ^ 14 + n / 2 ^ 8 % 4 * 2 ^ 8 + n % 16 }
+{}
