@@ -1,5 +1,5 @@
 //! Data read, written and printed, with octets and texts spelled out from RFC 4034 2 and RFC 8078 4.
-use crate::{CDNSKEY, DNSKEY};
+use crate::{CDNSKEY, DNSKEY, KEY};
 use dns_wire::{BinDecoder, BinEncodable, BinEncoder, RecordDataDecodable};
 use sec_codes::{Algorithm, PublicKey, PublicKeyBuf};
 use std::alloc::{AllocError, Global};
@@ -96,5 +96,23 @@ fn cdnskey_has_a_long_key(rt: HostRuntime) -> Result<(), Fail> {
     assert!(rt; made == key);
     let public_key = PublicKeyBuf::new(long_key(alloc)?, Algorithm::ED25519);
     assert!(rt; key.public_key()? == Some(public_key));
+    Ok(())
+}
+
+#[test]
+fn other_keys_may_be_long(rt: HostRuntime) -> Result<(), Fail> {
+    let alloc = rt.alloc();
+    let mut octets = Vec::from_slice(alloc, HEAD.as_slice())?;
+    octets.resize(65_535, 7)?;
+    let mut decoder = BinDecoder::new(octets.as_slice());
+    let dnskey = DNSKEY::read_data(alloc, &mut decoder, 65_535)?;
+    let mut encoder = BinEncoder::new(alloc);
+    dnskey.emit(&mut encoder)?;
+    assert_eq!(rt; encoder.as_slice(), octets.as_slice());
+    let mut decoder = BinDecoder::new(octets.as_slice());
+    let key = KEY::read_data(alloc, &mut decoder, 65_535)?;
+    let mut encoder = BinEncoder::new(alloc);
+    key.emit(&mut encoder)?;
+    assert_eq!(rt; encoder.as_slice(), octets.as_slice());
     Ok(())
 }
