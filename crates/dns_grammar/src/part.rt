@@ -3,7 +3,7 @@ ghost use Rattle.std.specs.Prelude.{◌≡◌, List};
 ghost use Rattle.dns_wire.specs.Writing.{Writes};
 ghost use Rattle.dns_grammar.specs.Parts.{part_octets, parts_octets, Grows};
 
-use dns_wire::{BinEncoder, EmitError, Name};
+use dns_wire::{BinEncoder, EmitError, Name, time_octets};
 
 /// A field of record data that is to be written (RFC 1035 3.3).
 #[derive(Clone, Copy, Debug)]
@@ -40,9 +40,7 @@ impl Part<'_> {
                 if time >= 1 << 48 {
                     return Err(EmitError::TimeTooLarge);
                 }
-                let high = (time >> 32) as u16;
-                let low = (time & 0xffff_ffff) as u32;
-                encoder.emit_both(&high.to_be_bytes(), &low.to_be_bytes())
+                encoder.emit_vec(&time_octets(time))
             }
             Part::Octets(octets) => encoder.emit_vec(octets),
             Part::Counted8(octets, too_long) => match u8::try_from(octets.len()) {

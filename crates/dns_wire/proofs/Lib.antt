@@ -9,3 +9,11 @@ pub mod Numerals
 pub mod FieldLaws
 pub mod CodeTexts
 pub mod TextBack
+pub mod TypeBlocks
+pub mod NextBits
+pub mod TypeBits
+pub mod FormLaws
+pub mod TypeLaws
+pub mod TypeWalks
+pub mod EqualForms
+pub mod FormWriting

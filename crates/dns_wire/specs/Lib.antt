@@ -6,3 +6,5 @@ pub mod Reading
 pub mod Writing
 pub mod NameText
 pub mod Codes
+pub mod TypeSets
+pub mod TypeWalks

@@ -32,14 +32,23 @@ octet_text octet =
     else if is_ascii_graphic octet then octet ∷ []
     else backslash ∷ (decimal (octet / 100) ++ decimal (octet / 10 % 10) ++ decimal (octet % 10))
 
+-- the octets of a label
+abbrev pub octets_text : List ℕ → List ℕ
+octets_text = flat_map octet_text
+
 -- a label and the dot behind it
 abbrev pub label_text : List ℕ → List ℕ
-label_text label = flat_map octet_text label ++ dot ∷ []
+label_text label = octets_text label ++ dot ∷ []
 
 -- each label with its dot; the root is one dot
 abbrev pub name_text : List (List ℕ) → List ℕ
 name_text [] = dot ∷ []
 name_text (label ∷ n) = flat_map label_text (label ∷ n)
+
+-- the labels with a dot between each two; the root is one dot
+abbrev pub bare_name_text : List (List ℕ) → List ℕ
+bare_name_text [] = dot ∷ []
+bare_name_text (label ∷ n) = octets_text label ++ flat_map (λ next. dot ∷ octets_text next) n
 
 -- ---- text in, faults in order from the left
 

@@ -18,7 +18,11 @@ mod serial;
 #[cfg(test)]
 mod tests;
 mod text;
+mod time;
 mod traits;
+mod type_blocks;
+mod type_form;
+mod type_set;
 
 pub use codes::{DNSClass, RecordType};
 pub use decoder::BinDecoder;
@@ -29,4 +33,7 @@ pub use lower_name::LowerName;
 pub use name::{LabelIter, Name};
 pub use octets::Octets;
 pub use serial::SerialNumber;
+pub use text::BareName;
+pub use time::time_octets;
 pub use traits::{BinDecodable, BinEncodable, RecordDataDecodable};
+pub use type_set::{RecordTypeIter, RecordTypeSet};

@@ -54,6 +54,13 @@ impl Octets {
         self.octets.as_slice()
     }
 
+    /// The octets as a vector.
+    pub fn into_vec(self) -> Vec<u8>
+        ensures { result.items ≡ self }
+    {
+        self.octets
+    }
+
     /// How many octets there are.
     pub fn len(&self) -> usize
         ensures { result ≡ length self.now }

@@ -1,7 +1,7 @@
 //! Names as text (RFC 1035 5.1). Each loop that writes has a value of its own, an octet, a label or a name, whose text is stated.
 ghost use Rattle.std.specs.Prelude.{◌≡◌, ◌++◌, ◌∷◌, [], Some};
 ghost use Rattle.std.specs.List.{flat_map};
-ghost use Rattle.dns_wire.specs.NameText.{is_special, octet_text, label_text, name_text};
+ghost use Rattle.dns_wire.specs.NameText.{is_special, octet_text, octets_text, label_text, name_text, bare_name_text};
 
 use crate::label::Label;
 use crate::name::Name;
@@ -36,6 +36,22 @@ fn is_special(octet: u8) -> bool
     )
 }
 
+/// The octets of a label.
+#[derive(Drop)]
+struct OctetsText<'a>(&'a [u8]);
+
+impl fmt::Display for OctetsText<'_> {
+    ghost output = { λ label. Some (octets_text label.0.now) };
+
+    fn fmt<W: fmt::Write>(&self, f: &mut fmt::Formatter<W>) -> fmt::Result {
+        let octets = self.0;
+        for octet in octets {
+            write!(f, "{}", OctetText(*octet))?;
+        }
+        Ok(())
+    }
+}
+
 /// A label and the dot behind it.
 #[derive(Drop)]
 struct LabelText<'a>(&'a [u8]);
@@ -44,11 +60,7 @@ impl fmt::Display for LabelText<'_> {
     ghost output = { λ label. Some (label_text label.0.now) };
 
     fn fmt<W: fmt::Write>(&self, f: &mut fmt::Formatter<W>) -> fmt::Result {
-        let octets = self.0;
-        for octet in octets {
-            write!(f, "{}", OctetText(*octet))?;
-        }
-        f.write_str(".")
+        write!(f, "{}.", OctetsText(self.0))
     }
 }
 
@@ -77,6 +89,26 @@ impl fmt::Display for Name {
         }
         for label in self.iter() {
             write!(f, "{}", LabelText(label))?;
+        }
+        Ok(())
+    }
+}
+
+/// A name that prints as `Name` does, without its last dot. The root is one dot.
+#[derive(Clone, Copy)]
+pub struct BareName<'a>(pub &'a Name);
+
+impl fmt::Display for BareName<'_> {
+    ghost output = { λ name. Some (bare_name_text name.0.now) };
+
+    fn fmt<W: fmt::Write>(&self, f: &mut fmt::Formatter<W>) -> fmt::Result {
+        let mut labels = self.0.iter();
+        let Some(first) = labels.next() else {
+            return f.write_str(".");
+        };
+        write!(f, "{}", OctetsText(first))?;
+        for label in labels {
+            write!(f, ".{}", OctetsText(label))?;
         }
         Ok(())
     }

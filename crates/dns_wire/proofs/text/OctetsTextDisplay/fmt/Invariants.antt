@@ -2,7 +2,7 @@ use Rattle.std.proofs.Common.{take}
 use Rattle.std.specs.List.{flat_map}
 use Rattle.std.specs.Fmt.{HasWritten, IsPlainFormatter}
 use Rattle.dns_wire.specs.NameText.{octet_text}
-use Rattle.dns_wire.proofs.text.LabelTextDisplay.fmt.Given as goal
+use Rattle.dns_wire.proofs.text.OctetsTextDisplay.fmt.Given as goal
 
 abbrev pub invariant-loop-octet : goal.invariant-loop-octet
 invariant-loop-octet g l =
