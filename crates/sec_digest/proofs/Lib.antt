@@ -1,5 +1,6 @@
 mod Blocks
 mod Comparing
+mod DigitSteps
 mod Digits
 mod Finishing
 mod Groups

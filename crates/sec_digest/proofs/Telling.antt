@@ -4,7 +4,7 @@ use Rattle.std.proofs.lemmas.List.FromFn.{length-map-range_with_len, get_or-map-
 use Rattle.std.proofs.lemmas.Nat.Bits.{bit_at-lt, same_from_bits_below}
 use Rattle.std.proofs.lemmas.Grind.{same_number_lists}
 use Rattle.dns_wire.specs.Octets.{AreOctets}
-use Rattle.sec_digest.specs.Base32.{base32, bit_of, digit_count, digit_of, five_bits}
+use Rattle.sec_digest.specs.Base32.{base32, bit_of, digit_at, digit_count, digit_of, five_bits}
 use Rattle.sec_digest.proofs.Digits.{same_number}
 
 bit_of-lt : (x : List ℕ) (k : ℕ) → bit_of x k < 2
@@ -45,7 +45,7 @@ octets-lt (n ∷ x) (suc i) are = octets-lt x i are.1
 
 -- equal texts have as many octets
 as_long : (x y : List ℕ) → base32 x ≡ base32 y → length x ≡ length y
-unfolding base32
+unfolding base32 digit_at
 as_long x y e =
     let n : digit_count (length x) ≡ digit_count (length y) =
     sym (length-map-range_with_len (λ i. digit_of (five_bits x (5 * i))) 0 (digit_count (length x))) ∙ ap length e
@@ -54,7 +54,7 @@ as_long x y e =
 
 -- equal texts come from numbers of five bits that are equal
 digits_same : (x y : List ℕ) (i : ℕ) → base32 x ≡ base32 y → i < digit_count (length x) → five_bits x (5 * i) ≡ five_bits y (5 * i)
-unfolding base32
+unfolding base32 digit_at
 digits_same x y i e h =
     let long : length x ≡ length y = as_long x y e in
     let here : i < digit_count (length y) = omega arith in

@@ -13,7 +13,7 @@ mod nsec3_hash;
 #[cfg(test)]
 mod tests;
 
-pub use base32::base32_dnssec;
+pub use base32::{Base32Text, base32_dnssec, base32_label};
 pub use digest::Digest;
 pub use digest_type::DigestType;
 pub use hmac::{Hmac, HmacHash};

@@ -6,7 +6,9 @@ ghost use Rattle.std.specs.List.{flat_map};
 ghost use Rattle.sec_digest.specs.Hmac.{hmac};
 ghost use Rattle.sec_digest.specs.Mac.{mac_octets};
 
-use crate::{Digest, DigestType, Hmac, HmacHash, Mac, Nsec3HashAlgorithm, base32_dnssec};
+use crate::{
+    Digest, DigestType, Hmac, HmacHash, Mac, Nsec3HashAlgorithm, base32_dnssec, base32_label,
+};
 use dns_wire::{DecodeError, Label, Name};
 use std::alloc::{AllocError, Global};
 use std::test::Fail;
@@ -199,5 +201,17 @@ fn base32_of_few_octets(rt: HostRuntime) -> Result<(), Fail> {
         let made = base32_dnssec(rt.alloc(), octets)?;
         assert_eq!(rt; made.as_str(), text);
     }
+    Ok(())
+}
+
+#[test]
+fn label_has_digits_of_hash(rt: HostRuntime) -> Result<(), Fail> {
+    let label = Label::from_bytes(b"cpnmuoj1e8")?;
+    assert_eq!(rt; base32_label(b"foobar"), Some(label));
+    // 39 octets of zero bits have 63 digits, and 40 have 64.
+    let longest = Label::from_bytes(&[b'0'; 63])?;
+    assert_eq!(rt; base32_label(&[0; 39]), Some(longest));
+    assert_eq!(rt; base32_label(&[0; 40]), None);
+    assert_eq!(rt; base32_label(b""), None);
     Ok(())
 }

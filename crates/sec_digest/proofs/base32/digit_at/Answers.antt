@@ -1,10 +1,11 @@
 use Rattle.std.proofs.Common.{◌≡◌, ℕ, ◌+◌, ◌*◌, ◌/◌, ◌%◌, ◌-◌, ◌<◌, ◌^◌, get_or, arith, ap, ◌∙◌}
 use Rattle.std.proofs.lemmas.Nat.{and_mask}
-use Rattle.sec_digest.specs.Base32.{digit_of, five_bits}
+use Rattle.sec_digest.specs.Base32.{digit_at, digit_of, five_bits}
 use Rattle.sec_digest.proofs.Groups.{spelled}
 use Rattle.sec_digest.proofs.base32.digit_at.Goals as goal
 
 pub returns-clause-value : goal.returns-clause-value
+unfolding digit_at
 returns-clause-value c =
     let start : ℕ = c.args.i / 8 * 5 + c.args.i % 8 * 5 / 8 in
     let skip : ℕ = c.args.i % 8 * 5 % 8 in
