@@ -1,4 +1,7 @@
 mod KnownFlags
+mod SameTags
+mod TagSums
+mod TextsBack
 mod TheirFields
 mod TheirFlags
 mod WrittenDigests

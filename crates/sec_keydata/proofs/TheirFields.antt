@@ -5,6 +5,7 @@ use Rattle.sec_codes.specs.Algorithms.{algorithm_of}
 use Rattle.sec_digest.specs.Digests.{digest_type}
 use Rattle.sec_keydata.specs.OptionalAlgorithms.{optional_algorithm}
 use Rattle.sec_keydata.specs.KeyUses.{protocol_of}
+use Rattle.sec_keydata.specs.DnsKeys.{DnsKeyData, CdnsKeyData, DnsKeyIsNamed, CdnsKeyIsNamed, dnskey_values, cdnskey_values}
 use Rattle.sec_keydata.specs.Digests.{DsData, CdsData, DsIsNamed, CdsIsNamed, ds_values, cds_values}
 use Rattle.sec_keydata.specs.KeyData.{KeyData, KeyIsNamed, key_values}
 
@@ -61,3 +62,19 @@ key_told x y a b same =
     let algorithm : x.algorithm ≡ y.algorithm = a.algorithm ∙ (ap (λ vs. algorithm_of (third vs)) same ∙ sym b.algorithm) in
     let octets : x.public_key ≡ y.public_key = ap last same in
     λ i. record { flags = flags i; protocol = protocol i; algorithm = algorithm i; public_key = octets i }
+
+pub dnskey_told : (x y : DnsKeyData) → DnsKeyIsNamed x → DnsKeyIsNamed y → dnskey_values x ≡ dnskey_values y → x ≡ y
+unfolding first num second third last str
+dnskey_told x y a b same =
+    let flags : x.flags ≡ y.flags = ap first same in
+    let algorithm : x.public_key.algorithm ≡ y.public_key.algorithm = a ∙ (ap (λ vs. algorithm_of (third vs)) same ∙ sym b) in
+    let octets : x.public_key.octets ≡ y.public_key.octets = ap last same in
+    λ i. record { flags = flags i; public_key = record { octets = octets i; algorithm = algorithm i } }
+
+pub cdnskey_told : (x y : CdnsKeyData) → CdnsKeyIsNamed x → CdnsKeyIsNamed y → cdnskey_values x ≡ cdnskey_values y → x ≡ y
+unfolding first num second third last str
+cdnskey_told x y a b same =
+    let flags : x.flags ≡ y.flags = ap first same in
+    let algorithm : x.algorithm ≡ y.algorithm = a ∙ (ap (λ vs. optional_algorithm (third vs)) same ∙ sym b) in
+    let octets : x.octets ≡ y.octets = ap last same in
+    λ i. record { flags = flags i; algorithm = algorithm i; octets = octets i }

@@ -2,7 +2,7 @@
 use Rattle.std.specs.Prelude.{◌≡◌, ℕ, List, [], ◌∷◌, ◌++◌, codes, Option, Result, IfOk}
 use Rattle.std.specs.Fmt.{decimal}
 use Rattle.sec_keydata.specs.OptionalAlgorithms.{optional_number, optional_algorithm}
-use Rattle.sec_keydata.specs.UpperHex.{upper_hex}
+use Rattle.dns_text.specs.HexText.{upper_hex}
 use Rattle.dns_wire.specs.declared.error.DecodeError.{DecodeError}
 use Rattle.dns_wire.specs.Reading.{ReadsUnless}
 use Rattle.dns_grammar.specs.RecordData.{data_at}

@@ -2,6 +2,9 @@ pub mod Digests
 pub mod DnsKeyFlags
 pub mod DnsKeys
 pub mod KeyData
+pub mod KeyDigests
+pub mod KeyFields
+pub mod KeyTags
 pub mod KeyUses
 pub mod OptionalAlgorithms
-pub mod UpperHex
+pub mod Tokens

@@ -7,8 +7,8 @@ ghost use Rattle.dns_grammar.specs.RecordData.{row_at};
 ghost use Rattle.dns_grammar.specs.KeyRows.{ds_row};
 ghost use Rattle.sec_keydata.specs.Digests.{fields_values, fields_text};
 
-use crate::upper_hex::UpperHex;
 use dns_grammar::{Part, emit_parts};
+use dns_text::UpperHex;
 use dns_wire::{BinDecoder, BinEncoder, DecodeError, EmitError};
 use std::fmt;
 

@@ -8,9 +8,9 @@ ghost use Rattle.sec_codes.specs.KeptKeys.{kept_key};
 ghost use Rattle.sec_keydata.specs.DnsKeyFlags as specs;
 ghost use Rattle.sec_keydata.specs.DnsKeys.{dnskey_data, dnskey_values, dnskey_text, DnsKeyIsNamed};
 
-use crate::base64_text::Base64Text;
 use crate::dnskey_flags::{flags_of, is_revoked, is_secure_entry_point, is_zone_key};
 use dns_grammar::{Part, data_end, emit_parts};
+use dns_text::Base64Text;
 use dns_wire::{
     BinDecoder, BinEncodable, BinEncoder, DecodeError, EmitError, OutOfMemory, RecordDataDecodable,
 };

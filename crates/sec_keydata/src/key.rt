@@ -5,10 +5,10 @@ ghost use Rattle.dns_grammar.specs.KeyRows.{key_flags_fault, key_row};
 ghost use Rattle.sec_keydata.specs.KeyUses.{trust_code, usage_code, scope_bits, all_flags};
 ghost use Rattle.sec_keydata.specs.KeyData.{key_data, key_values, key_text, key_is_read};
 
-use crate::base64_text::Base64Text;
 use crate::key_uses::{KeyTrust, KeyUsage, UpdateScope};
 use crate::protocol::Protocol;
 use dns_grammar::{Part, data_end, emit_parts};
+use dns_text::Base64Text;
 use dns_wire::{
     BinDecoder, BinEncodable, BinEncoder, DecodeError, EmitError, Octets, OutOfMemory,
     RecordDataDecodable,

@@ -1,10 +1,16 @@
 //! Laws of the definitions. Nothing calls these functions.
-ghost use Rattle.std.specs.Prelude.{◌≡◌, ◌<◌, ◌^◌, ◌*◌, ◌+◌, ◌/◌, ◌%◌, ℕ, List, None};
-ghost use Rattle.dns_grammar.specs.Fields.{Num, Str};
+ghost use Rattle.std.specs.Prelude.{◌≡◌, ◌<◌, ◌^◌, ◌*◌, ◌+◌, ◌/◌, ◌%◌, ℕ, false, List, length, None, Ok, Err};
+ghost use Rattle.dns_grammar.specs.Fields.{Num, Str, fields_octets};
 ghost use Rattle.dns_grammar.specs.KeyRows.{dnskey_row, ds_row, key_row, key_flags_fault};
 ghost use Rattle.dns_grammar.specs.Laws.{AreReadBack};
+ghost use Rattle.dns_wire.specs.Octets.{AreOctets};
+ghost use Rattle.sec_codes.specs.Algorithms.{number};
+ghost use Rattle.sec_keydata.specs.declared.token_error.TokenError.TheVariants.{Missing};
+ghost use Rattle.sec_keydata.specs.declared.token_error.TokenField.TheVariants.{PublicKey};
 ghost use Rattle.sec_keydata.specs.DnsKeyFlags.{flags_of, is_zone_key, is_secure_entry_point, is_revoked};
-ghost use Rattle.sec_keydata.specs.DnsKeys.{public_key_values};
+ghost use Rattle.sec_keydata.specs.DnsKeys.{DnsKeyData, CdnsKeyData, DnsKeyIsNamed, CdnsKeyIsNamed, public_key_values, dnskey_values, cdnskey_values, dnskey_text};
+ghost use Rattle.sec_keydata.specs.Tokens.{token_dnskey};
+ghost use Rattle.sec_keydata.specs.KeyTags.{dnskey_octets, dnskey_tag};
 ghost use Rattle.sec_keydata.specs.Digests.{DsData, CdsData, digest_values, ds_values, cds_values, DsIsNamed, CdsIsNamed};
 ghost use Rattle.sec_keydata.specs.KeyData.{KeyData, key_fields, key_values, KeyIsNamed};
 ghost use Rattle.sec_keydata.specs.KeyUses.{trust_code, usage_code, scope_bits, all_flags, protocol_number, protocol_of};
@@ -35,8 +41,10 @@ pub fn other_keys_are_read_back()
 {}
 
 /// Data whose algorithm, digest type and protocol are those of their numbers are told by their fields.
-#[tactic(auto, using(crate::proofs::TheirFields::ds_told, crate::proofs::TheirFields::cds_told, crate::proofs::TheirFields::key_told))]
+#[tactic(auto, using(crate::proofs::TheirFields::dnskey_told, crate::proofs::TheirFields::cdnskey_told, crate::proofs::TheirFields::ds_told, crate::proofs::TheirFields::cds_told, crate::proofs::TheirFields::key_told))]
 pub fn fields_tell_data()
+    ensures dnskey { (x y : DnsKeyData) → DnsKeyIsNamed x → DnsKeyIsNamed y → dnskey_values x ≡ dnskey_values y → x ≡ y }
+    ensures cdnskey { (x y : CdnsKeyData) → CdnsKeyIsNamed x → CdnsKeyIsNamed y → cdnskey_values x ≡ cdnskey_values y → x ≡ y }
     ensures ds { (x y : DsData) → DsIsNamed x → DsIsNamed y → ds_values x ≡ ds_values y → x ≡ y }
     ensures cds { (x y : CdsData) → CdsIsNamed x → CdsIsNamed y → cds_values x ≡ cds_values y → x ≡ y }
     ensures key { (x y : KeyData) → KeyIsNamed x → KeyIsNamed y → key_values x ≡ key_values y → x ≡ y }
@@ -47,16 +55,35 @@ pub fn protocol_numbers_are_kept()
     ensures { (n : ℕ) → protocol_number (protocol_of n) ≡ n }
 {}
 
-/// The flags that are made of trust, usage and scope give these three.
-#[tactic(auto, using(crate::proofs::TheirFlags::trust_kept, crate::proofs::TheirFlags::usage_kept, crate::proofs::TheirFlags::scope_kept))]
+/// The flags that are made of trust, usage and scope give these three, and have no fault.
+#[tactic(auto, using(crate::proofs::TheirFlags::trust_kept, crate::proofs::TheirFlags::usage_kept, crate::proofs::TheirFlags::scope_kept, crate::proofs::TheirFlags::flags_allowed))]
 pub fn key_uses_are_kept()
     ensures trust { (t : _) (u : _) (s : _) → all_flags t u s / 2 ^ 14 % 4 ≡ trust_code t }
     ensures usage { (t : _) (u : _) (s : _) → all_flags t u s / 2 ^ 8 % 4 ≡ usage_code u }
     ensures scope { (t : _) (u : _) (s : _) → all_flags t u s % 16 ≡ scope_bits s }
+    ensures allowed { (t : _) (u : _) (s : _) → key_flags_fault (Num (all_flags t u s)) ≡ None }
 {}
 
 /// Flags without fault are the sum of the bits that tell trust, usage and scope.
 #[tactic(auto, using(crate::proofs::KnownFlags::known_flags))]
 pub fn known_flags_are_all()
     ensures { (n : ℕ) → n < 2 ^ 16 → key_flags_fault (Num n) ≡ None → n ≡ n / 2 ^ 14 % 4 * 2 ^ 14 + n / 2 ^ 8 % 4 * 2 ^ 8 + n % 16 }
+{}
+
+/// The data of a DNSKEY can be written, whatever they are.
+pub fn keys_are_written()
+    ensures { (key : DnsKeyData) → fields_octets false dnskey_row (dnskey_values key) ≡ Ok (dnskey_octets key) }
+{}
+
+/// The tag of a DNSKEY depends on the octets of its data alone.
+#[tactic(auto, using(crate::proofs::SameTags::same_tag))]
+pub fn tags_are_of_octets()
+    ensures { (x y : DnsKeyData) → fields_octets false dnskey_row (dnskey_values x) ≡ fields_octets false dnskey_row (dnskey_values y) → dnskey_tag x ≡ dnskey_tag y }
+{}
+
+/// What a DNSKEY prints is read as the DNSKEY, where its algorithm is that of its number and its key is not empty.
+#[tactic(auto, using(crate::proofs::TextsBack::text_back, crate::proofs::TextsBack::keyless_text_back))]
+pub fn key_texts_are_read_back()
+    ensures read { (key : DnsKeyData) → key.flags < 2 ^ 16 → number key.public_key.algorithm < 2 ^ 8 → DnsKeyIsNamed key → AreOctets key.public_key.octets → 0 < length key.public_key.octets → token_dnskey (dnskey_text key) ≡ Ok key }
+    ensures no_key { (key : DnsKeyData) → key.flags < 2 ^ 16 → number key.public_key.algorithm < 2 ^ 8 → length key.public_key.octets ≡ 0 → token_dnskey (dnskey_text key) ≡ Err (Missing PublicKey) }
 {}

@@ -1,7 +1,6 @@
 //! The data of the records of keys: DNSKEY and DS (RFC 4034), CDNSKEY and CDS (RFC 7344), KEY (RFC 2535).
 #![tactic(auto)]
 
-mod base64_text;
 mod cdnskey;
 mod cds;
 mod digest_fields;
@@ -9,18 +8,26 @@ mod dnskey;
 mod dnskey_flags;
 mod ds;
 mod key;
+mod key_data_error;
+mod key_digest;
+mod key_fields;
+mod key_tag;
 mod key_uses;
 pub mod laws;
+mod mnemonics;
 mod optional_algorithm;
 mod protocol;
 #[cfg(test)]
 mod tests;
-mod upper_hex;
+mod token_error;
+mod tokens;
 
 pub use cdnskey::CDNSKEY;
 pub use cds::CDS;
 pub use dnskey::DNSKEY;
 pub use ds::DS;
 pub use key::KEY;
+pub use key_data_error::KeyDataError;
 pub use key_uses::{KeyTrust, KeyUsage, UpdateScope};
 pub use protocol::Protocol;
+pub use token_error::{TokenError, TokenField};

@@ -1,0 +1,18 @@
+-- Data of the same octets have the same tag.
+use Rattle.std.proofs.Common.{◌≡◌, ℕ, ◌+◌, false, List, [], length, Result, Ok, Err, cond, ltb, ap, ◌∙◌, arith, length-append}
+use Rattle.std.specs.Result.{result_unwrap_or}
+use Rattle.dns_wire.specs.Reading.{◌>>=◌}
+use Rattle.dns_grammar.specs.Fields.{fields_octets}
+use Rattle.dns_grammar.specs.KeyRows.{dnskey_row}
+use Rattle.sec_keydata.specs.declared.key_data_error.KeyDataError.TheVariants.{DataTooLong}
+use Rattle.sec_keydata.specs.DnsKeys.{DnsKeyData, dnskey_values}
+use Rattle.sec_keydata.specs.KeyTags.{dnskey_octets, dnskey_tag, key_tag}
+
+length-key : (key : DnsKeyData) → length (dnskey_octets key) ≡ 4 + length key.public_key.octets
+length-key key = omega (arith, length-append key.public_key.octets [])
+
+pub same_tag : (x y : DnsKeyData) → fields_octets false dnskey_row (dnskey_values x) ≡ fields_octets false dnskey_row (dnskey_values y) → dnskey_tag x ≡ dnskey_tag y
+same_tag x y same =
+    let octets : dnskey_octets x ≡ dnskey_octets y = ap (λ r. result_unwrap_or r []) same in
+    let len : length x.public_key.octets ≡ length y.public_key.octets = omega (arith, length-key x, length-key y, ap length octets) in
+    λ i. cond (ltb 65531 (len i)) (Err DataTooLong) (Ok (octets i)) >>= λ whole. Ok (key_tag whole)

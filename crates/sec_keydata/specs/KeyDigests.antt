@@ -1,0 +1,41 @@
+-- The digests of keys in DS records (RFC 4034 5.1.4), and the records that are made of keys.
+use Rattle.std.specs.Prelude.{ℕ, ◌&&◌, Bool, List, ◌++◌, Result, Ok}
+use Rattle.std.specs.Option.{ok_or}
+use Rattle.std.specs.Result.{result_ok}
+use Rattle.std.specs.Str.{bytes_eq}
+use Rattle.dns_wire.specs.Names.{wire, low}
+use Rattle.dns_wire.specs.Reading.{◌>>=◌}
+use Rattle.sec_codes.specs.KeyForms.{Key}
+use Rattle.sec_digest.specs.declared.digest_type.DigestType.{DigestType}
+use Rattle.sec_digest.specs.Digests.{digest, digest_number}
+use Rattle.sec_keydata.specs.declared.key_data_error.KeyDataError.{KeyDataError}
+use Rattle.sec_keydata.specs.declared.key_data_error.KeyDataError.TheVariants.{UnknownDigestAlgorithm}
+use Rattle.sec_keydata.specs.Digests.{DsData}
+use Rattle.sec_keydata.specs.DnsKeyFlags.{is_zone_key}
+use Rattle.sec_keydata.specs.DnsKeys.{DnsKeyData}
+use Rattle.sec_keydata.specs.KeyTags.{held_octets, dnskey_tag}
+
+-- The digest of an owner's key: that of the owner's wire form in lower case, and the data. A key whose data no record holds is refused
+-- first, and then a digest type that has no hash function.
+abbrev pub ds_digest : List (List ℕ) → DnsKeyData → DigestType → Result (List ℕ) KeyDataError
+ds_digest owner key kind = do
+  octets ← held_octets key
+  ok_or (result_ok (digest kind (wire (low owner) ++ octets))) (UnknownDigestAlgorithm (digest_number kind))
+
+-- the DNSKEY of a public key: one of a zone, and a secure entry point
+abbrev pub entry_key : Key → DnsKeyData
+entry_key key = record { flags = 257; public_key = key }
+
+-- the DS of an owner's public key
+abbrev pub ds_of_key : List (List ℕ) → Key → DigestType → Result DsData KeyDataError
+ds_of_key owner key kind = do
+  tag ← dnskey_tag (entry_key key)
+  octets ← ds_digest owner (entry_key key) kind
+  Ok (record { key_tag = tag; algorithm = key.algorithm; digest_type = kind; digest = octets })
+
+-- Whether a DS covers an owner's key: the key is one of a zone (RFC 4034 5.2), and its digest is that of the DS. A key without a digest of
+-- the type of the DS is refused, whatever its flags are.
+abbrev pub covered : List (List ℕ) → DsData → DnsKeyData → Result Bool KeyDataError
+covered owner ds key = do
+  octets ← ds_digest owner key ds.digest_type
+  Ok (is_zone_key key.flags && bytes_eq octets ds.digest)
