@@ -1,27 +1,20 @@
 -- The octets of a TSIG record, and octets written piece by piece.
-use Rattle.std.proofs.Common.{◌≡◌, ℕ, ◌<◌, ◌^◌, false, List, [], ◌++◌, length, Ok, refl, sym, ap, ◌∙◌, append_assoc, lt-ltb}
-use Rattle.std.proofs.lemmas.List.{append-nil}
-use Rattle.dns_wire.specs.Octets.{two_octets, six_octets}
+use Rattle.std.proofs.Common.{◌≡◌, ℕ, ◌<◌, ◌^◌, false, List, ◌++◌, length, Ok, ap, ◌∙◌, append_assoc}
+use Rattle.dns_wire.specs.Octets.{two_octets, four_octets}
 use Rattle.dns_wire.specs.Names.{wire}
 use Rattle.dns_wire.specs.Writing.{Output}
-use Rattle.dns_grammar.specs.Fields.{fields_octets}
-use Rattle.dns_grammar.specs.Tables.{tsig_row}
-use Rattle.dns_grammar.specs.Messages.{TsigData, tsig_values}
+use Rattle.dns_grammar.specs.RecordData.{tsig_type}
+use Rattle.dns_grammar.specs.Messages.{TsigData}
+use Rattle.sec_sigdata.specs.TsigRecords.{any_class}
+use Rattle.sec_sigdata.proofs.TsigData.{data_octets, data_written}
+use Rattle.sec_tsig.specs.Tsig.{tsig_record, tsig_record_of}
 
--- the fields of a TSIG record's data, one behind the other
-abbrev pub data_octets : TsigData → List ℕ
-data_octets tsig =
-    wire tsig.algorithm
-    ++ (six_octets tsig.time
-    ++ (two_octets tsig.fudge
-    ++ ((two_octets (length tsig.mac) ++ tsig.mac)
-    ++ (two_octets tsig.oid
-    ++ (two_octets tsig.error
-    ++ ((two_octets (length tsig.other) ++ tsig.other) ++ []))))))
+-- a record with these octets of data
+abbrev pub octets_of_record : List (List ℕ) → List ℕ → List ℕ
+octets_of_record owner rdata = wire owner ++ (two_octets tsig_type ++ (two_octets any_class ++ (four_octets 0 ++ (two_octets (length rdata) ++ rdata))))
 
-pub data_written : (tsig : TsigData) → tsig.time < 2 ^ 48 → length tsig.mac < 2 ^ 16 → length tsig.other < 2 ^ 16
-    → fields_octets false tsig_row (tsig_values tsig) ≡ Ok (data_octets tsig)
-data_written tsig time mac other = rw (lt-ltb tsig.time (2 ^ 48) time, lt-ltb (length tsig.mac) (2 ^ 16) mac, lt-ltb (length tsig.other) (2 ^ 16) other) refl
+pub record_written : (owner : List (List ℕ)) (tsig : TsigData) → tsig.time < 2 ^ 48 → length tsig.mac < 2 ^ 16 → length tsig.other < 2 ^ 16 → tsig_record owner tsig ≡ Ok (octets_of_record owner (data_octets tsig))
+record_written owner tsig time mac other = ap (tsig_record_of owner) (data_written false tsig time mac other) ∙ simp append_assoc
 
 -- a piece before those that are put behind it
 pub piece_before : (old mid new : Output) (piece x y : List ℕ) → piece ≡ x → mid ≡ record old { octets = old.octets ++ piece } → new ≡ record mid { octets = mid.octets ++ y }
@@ -30,9 +23,3 @@ piece_before old mid new piece x y p e f =
     let more : Output → Output = λ o. record o { octets = o.octets ++ y } in
     let whole : List ℕ → Output = λ z. record old { octets = z } in
     f ∙ ap more e ∙ ap whole (append_assoc old.octets piece y ∙ ap (λ z. old.octets ++ (z ++ y)) p)
-
--- the last piece
-pub last_piece : (old new : Output) (piece x : List ℕ) → piece ≡ x → new ≡ record old { octets = old.octets ++ piece } → new ≡ record old { octets = old.octets ++ (x ++ []) }
-last_piece old new piece x p e =
-    let whole : List ℕ → Output = λ z. record old { octets = old.octets ++ z } in
-    e ∙ ap whole (p ∙ sym (append-nil x))

@@ -1,6 +1,6 @@
 -- What requests and answers come to, by the message that stands in their octets. Each of these statements is proved by a function of the
 -- module `laws`.
-use Rattle.std.specs.Prelude.{◌≡◌, ℕ, List, not, Result, Option, None, Ok, Err, if◌then◌else◌}
+use Rattle.std.specs.Prelude.{◌≡◌, ℕ, List, not, None, Err, if◌then◌else◌}
 use Rattle.dns_grammar.specs.Tables.{short_table}
 use Rattle.dns_grammar.specs.Messages.{Message, MessageAt, signature_of}
 use Rattle.sec_tsig.specs.declared.verifier.FirstError.TheVariants as errors

@@ -1,16 +1,13 @@
 -- What a transaction signature covers, and the record that carries it (RFC 8945 4.2, 4.3).
 use Rattle.std.specs.Prelude.{ℕ, ◌+◌, ◌-◌, List, [], ◌++◌, length, slice_range, Bool, false, Option, Some, None, Result, Ok, Err, ◌==◌, if◌then◌else◌}
 use Rattle.dns_wire.specs.declared.error.EmitError.{EmitError}
-use Rattle.dns_wire.specs.Octets.{two_octets, four_octets, six_octets}
-use Rattle.dns_wire.specs.Names.{wire, low}
+use Rattle.dns_wire.specs.Octets.{two_octets, four_octets}
+use Rattle.dns_wire.specs.Names.{wire}
 use Rattle.dns_grammar.specs.Fields.{fields_octets}
 use Rattle.dns_grammar.specs.RecordData.{tsig_type}
 use Rattle.dns_grammar.specs.Tables.{tsig_row}
 use Rattle.dns_grammar.specs.Messages.{TsigData, tsig_values}
-
--- the class ANY, of every TSIG record (RFC 8945 4.2)
-abbrev pub any_class : ℕ
-any_class = 255
+use Rattle.sec_sigdata.specs.TsigRecords.{any_class, tsig_timers, tsig_variables}
 
 -- ---- the octets under a MAC
 
@@ -24,22 +21,6 @@ prior_mac (Some mac) = two_octets (length mac) ++ mac
 unfoldable pub message_without_tsig : ℕ → ℕ → List ℕ → ℕ → List ℕ
 message_without_tsig oid additionals m start =
     two_octets oid ++ slice_range m 2 10 ++ two_octets (additionals - 1) ++ slice_range m 12 start
-
--- the time signed and the fudge (RFC 8945 5.3.1)
-unfoldable pub tsig_timers : TsigData → List ℕ
-tsig_timers tsig = six_octets tsig.time ++ two_octets tsig.fudge
-
--- whose key and which algorithm: the record's owner, its class and TTL, and the algorithm's name (RFC 8945 4.3.3)
-unfoldable pub key_variables : List (List ℕ) → TsigData → List ℕ
-key_variables owner tsig = wire (low owner) ++ two_octets any_class ++ four_octets 0 ++ wire (low tsig.algorithm)
-
--- the error and the other data behind their length (RFC 8945 4.3.3)
-unfoldable pub error_variables : TsigData → List ℕ
-error_variables tsig = two_octets tsig.error ++ two_octets (length tsig.other) ++ tsig.other
-
--- the TSIG variables (RFC 8945 4.3.3)
-unfoldable pub tsig_variables : List (List ℕ) → TsigData → List ℕ
-tsig_variables owner tsig = key_variables owner tsig ++ tsig_timers tsig ++ error_variables tsig
 
 -- What a MAC covers of its own TSIG record: the variables in a request and in the first answer to it, the timers in every later answer
 -- (RFC 8945 5.3.1).

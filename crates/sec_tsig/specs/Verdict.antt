@@ -1,20 +1,19 @@
 -- A chain of signed answers to one request, and the verdict on the next string of octets (RFC 8945 5.2 to 5.4).
-use Rattle.std.specs.Prelude.{ℕ, ◌+◌, ◌-◌, List, [], ◌∷◌, length, codes, Bool, false, ◌&&◌, not, Option, Some, None, Result, Ok, Err, nat_lt, nat_le, if◌then◌else◌}
+use Rattle.std.specs.Prelude.{ℕ, ◌+◌, ◌-◌, List, length, Bool, false, ◌&&◌, not, Option, Some, None, Result, Ok, Err, nat_lt, nat_le, if◌then◌else◌}
 use Rattle.std.specs.Str.{bytes_eq}
 use Rattle.dns_wire.specs.declared.error.DecodeError.{DecodeError}
 use Rattle.dns_wire.specs.Names.{wire, same}
 use Rattle.dns_grammar.specs.Fields.{Table}
 use Rattle.dns_grammar.specs.Messages.{Header, Message, Signature, signature_of, message_at}
 use Rattle.sec_digest.specs.declared.hmac.HmacHash.{HmacHash}
-use Rattle.sec_digest.specs.declared.hmac.HmacHash.TheVariants as hashes
 use Rattle.sec_digest.specs.Hmac.{hmac, mac_len}
+use Rattle.sec_sigdata.specs.TsigAlgorithms as names
+use Rattle.sec_sigdata.specs.TsigAlgorithms.{algorithm_with}
 use Rattle.sec_tsig.specs.Tsig.{mac_input}
 
 -- the name of an algorithm (RFC 8945 6)
 abbrev pub algorithm_name : HmacHash → List (List ℕ)
-algorithm_name hashes.Sha256 = codes "hmac-sha256" ∷ []
-algorithm_name hashes.Sha384 = codes "hmac-sha384" ∷ []
-algorithm_name hashes.Sha512 = codes "hmac-sha512" ∷ []
+algorithm_name hash = names.algorithm_name (algorithm_with hash)
 
 -- who signs: a key with its algorithm and its name, and the fudge of what it signs
 pub record Signer : Type 0 where

@@ -1,5 +1,5 @@
 -- What contracts see of messages in their octets.
-use Rattle.std.specs.Prelude.{◌≡◌, ℕ, Bool, ◌==◌, ◌≤◌, ◌<◌, ◌^◌, List, ◌++◌, length, Option, Result, Ok, Err}
+use Rattle.std.specs.Prelude.{◌≡◌, ℕ, Bool, ◌==◌, ◌≤◌, List, ◌++◌, length, Option, Result, Ok, Err}
 use Rattle.std.specs.Option.{option_map}
 use Rattle.std.specs.List.{list_any}
 use Rattle.dns_wire.specs.declared.decoder.BinDecoder.{BinDecoder}
@@ -8,15 +8,15 @@ use Rattle.dns_wire.specs.declared.error.EmitError.{EmitError}
 use Rattle.dns_wire.specs.declared.error.EmitError.TheVariants.{OutOfMemory as no_memory}
 use Rattle.dns_wire.specs.Writing.{Output}
 use Rattle.dns_wire.specs.Reading.{◌>>=◌, octets, place}
-use Rattle.dns_grammar.specs.Fields.{Field, Value}
+use Rattle.dns_grammar.specs.Fields.{Field}
 use Rattle.dns_grammar.specs.RecordData.{row_at}
 use Rattle.dns_grammar.specs.Messages as grammar
 use Rattle.dns_grammar.specs.Messages.{ResourceRecord, TsigData, Signature, tsig_values}
+use Rattle.sec_sigdata.specs.TsigRecords.{view_data, view_fields, TsigFits, TsigIsNamed}
 use Rattle.sec_tsig.specs.declared.outline.Outline.{Outline}
 use Rattle.sec_tsig.specs.declared.parts.Header.{Header}
 use Rattle.sec_tsig.specs.declared.parts.RecordHead.{RecordHead}
 use Rattle.sec_tsig.specs.declared.signature_view.SignatureView.{SignatureView}
-use Rattle.sec_tsig.specs.declared.signature_view.TsigView.{TsigView}
 
 abbrev pub header_view : Header → grammar.Header
 header_view h = record { id = h.id; flags = h.flags; questions = h.questions; answers = h.answers; authorities = h.authorities; additionals = h.additionals }
@@ -24,14 +24,8 @@ header_view h = record { id = h.id; flags = h.flags; questions = h.questions; an
 abbrev pub head_view : RecordHead → grammar.RecordHead
 head_view h = record { start = h.start; name = h.name; rtype = h.rtype; dns_class = h.dns_class; ttl = h.ttl; data_length = h.length }
 
-abbrev pub tsig_view : TsigView → TsigData
-tsig_view t = record { algorithm = t.algorithm; time = t.time; fudge = t.fudge; mac = t.mac.now; oid = t.oid; error = t.error; other = t.other.now }
-
-abbrev pub tsig_view_values : TsigView → List Value
-tsig_view_values t = tsig_values (tsig_view t)
-
 abbrev pub signature_view : SignatureView → Signature
-signature_view s = record { start = s.start; name = s.name; tsig = tsig_view s.tsig }
+signature_view s = record { start = s.start; name = s.name; tsig = view_data s.tsig }
 
 abbrev pub last_view : Option SignatureView × Bool → Option Signature × Bool
 last_view x = (option_map signature_view x.0, x.1)
@@ -40,15 +34,10 @@ last_view x = (option_map signature_view x.0, x.1)
 abbrev pub outline_view : Outline → grammar.Outline × ℕ
 outline_view o = (record { header = header_view o.header; signature = option_map signature_view o.signature; types_pass = o.types_pass }, o.end)
 
--- the numbers and octets of a signature fit the octets that they stood in (RFC 8945 4.2)
-pub record TsigFits (tsig : TsigView) : Type 0 where
-  pub time : tsig.time < 2 ^ 48
-  pub mac : length tsig.mac.now < 2 ^ 16
-  pub other : length tsig.other.now < 2 ^ 16
-
 -- the signature starts at this place or behind it, within the message, and is counted
 pub record IsPlaced (first : ℕ) (m : List ℕ) (header : Header) (s : SignatureView) : Type 0 where
-  pub fits : TsigFits s.tsig
+  pub fits : TsigFits (view_fields s.tsig)
+  pub named : TsigIsNamed (view_fields s.tsig)
   pub ahead : first ≤ s.start
   pub inside : s.start ≤ length m
   pub counted : 1 ≤ header.additionals

@@ -1,27 +1,17 @@
 //! The octets under a MAC (RFC 8945 4.3), fed to a hasher piece by piece.
 ghost use Rattle.std.specs.Prelude.{◌≡◌, ℕ, ◌≤◌, ◌<◌, ◌^◌, List, ◌++◌, length, Some, None, true};
-ghost use Rattle.dns_wire.specs.Octets.{six_octets};
 ghost use Rattle.sec_digest.specs.declared.hmac.HmacHash.{HmacHash};
 ghost use Rattle.sec_digest.specs.Hmac.{Feeds};
-ghost use Rattle.sec_tsig.specs.Views.{tsig_view, TsigFits};
-ghost use Rattle.sec_tsig.specs.Tsig.{prior_mac, message_without_tsig, tsig_timers, key_variables, error_variables, tsig_variables, mac_input, signing_input};
+ghost use Rattle.sec_sigdata.specs.TsigRecords.{view_data, view_fields, TsigFits, tsig_timers, key_variables, error_variables, tsig_variables};
+ghost use Rattle.sec_tsig.specs.Tsig.{prior_mac, message_without_tsig, mac_input, signing_input};
 
-use crate::signature_view::{SignatureView, TsigView};
-use dns_wire::Name;
+use crate::signature_view::SignatureView;
+use dns_wire::{Name, time_octets};
 use sec_digest::Hmac;
+use sec_sigdata::TsigView;
 
 /// Class ANY and TTL 0, of every TSIG record.
 const CLASS_AND_TTL: [u8; 6] = [0, 255, 0, 0, 0, 0];
-
-/// A number of 48 bits in six octets, the highest first.
-pub(crate) fn six_octets(n: u64) -> [u8; 6]
-    requires { n < 2 ^ 48 }
-    ensures { result ≡ six_octets n }
-{
-    let high = ((n / 0x1_0000_0000) as u16).to_be_bytes();
-    let low = ((n % 0x1_0000_0000) as u32).to_be_bytes();
-    [high[0], high[1], low[0], low[1], low[2], low[3]]
-}
 
 #[tactic(auto, unfolding(crate::specs::Tsig::prior_mac))]
 fn feed_prior_mac(hasher: &mut Hmac, mac: &[u8])
@@ -45,38 +35,38 @@ fn feed_message(hasher: &mut Hmac, oid: u16, additionals: u16, octets: &[u8], st
     hasher.update(&octets[12..start]);
 }
 
-#[tactic(auto, unfolding(crate::specs::Tsig::tsig_timers))]
+#[tactic(auto, unfolding(sec_sigdata::specs::TsigRecords::tsig_timers))]
 fn feed_timers(hasher: &mut Hmac, tsig: &TsigView<'_>)
-    requires { TsigFits tsig.now }
-    ensures { (hash : HmacHash) (key m : List ℕ) → Feeds hasher.old hash key m → Feeds hasher.new hash key (m ++ tsig_timers (tsig_view tsig.now)) }
+    requires { TsigFits (view_fields tsig.now) }
+    ensures { (hash : HmacHash) (key m : List ℕ) → Feeds hasher.old hash key m → Feeds hasher.new hash key (m ++ tsig_timers (view_data tsig.now)) }
 {
-    hasher.update(&six_octets(tsig.time));
+    hasher.update(&time_octets(tsig.time));
     hasher.update(&tsig.fudge.to_be_bytes());
 }
 
-#[tactic(auto, unfolding(crate::specs::Tsig::key_variables))]
+#[tactic(auto, unfolding(sec_sigdata::specs::TsigRecords::key_variables))]
 fn feed_key_variables(hasher: &mut Hmac, owner: &Name, tsig: &TsigView<'_>)
-    ensures { (hash : HmacHash) (key m : List ℕ) → Feeds hasher.old hash key m → Feeds hasher.new hash key (m ++ key_variables owner.now (tsig_view tsig.now)) }
+    ensures { (hash : HmacHash) (key m : List ℕ) → Feeds hasher.old hash key m → Feeds hasher.new hash key (m ++ key_variables owner.now (view_data tsig.now)) }
 {
     hasher.update(owner.to_lowercase().as_wire());
     hasher.update(&CLASS_AND_TTL);
-    hasher.update(tsig.algorithm.to_lowercase().as_wire());
+    hasher.update(tsig.algorithm.to_name().to_lowercase().as_wire());
 }
 
-#[tactic(auto, unfolding(crate::specs::Tsig::error_variables))]
+#[tactic(auto, unfolding(sec_sigdata::specs::TsigRecords::error_variables))]
 fn feed_error_variables(hasher: &mut Hmac, tsig: &TsigView<'_>)
-    requires { TsigFits tsig.now }
-    ensures { (hash : HmacHash) (key m : List ℕ) → Feeds hasher.old hash key m → Feeds hasher.new hash key (m ++ error_variables (tsig_view tsig.now)) }
+    requires { TsigFits (view_fields tsig.now) }
+    ensures { (hash : HmacHash) (key m : List ℕ) → Feeds hasher.old hash key m → Feeds hasher.new hash key (m ++ error_variables (view_data tsig.now)) }
 {
-    hasher.update(&tsig.error.to_be_bytes());
+    hasher.update(&tsig.error_number().to_be_bytes());
     hasher.update(&(tsig.other.len() as u16).to_be_bytes());
     hasher.update(tsig.other);
 }
 
-#[tactic(auto, unfolding(crate::specs::Tsig::tsig_variables))]
+#[tactic(auto, unfolding(sec_sigdata::specs::TsigRecords::tsig_variables))]
 fn feed_variables(hasher: &mut Hmac, owner: &Name, tsig: &TsigView<'_>)
-    requires { TsigFits tsig.now }
-    ensures { (hash : HmacHash) (key m : List ℕ) → Feeds hasher.old hash key m → Feeds hasher.new hash key (m ++ tsig_variables owner.now (tsig_view tsig.now)) }
+    requires { TsigFits (view_fields tsig.now) }
+    ensures { (hash : HmacHash) (key m : List ℕ) → Feeds hasher.old hash key m → Feeds hasher.new hash key (m ++ tsig_variables owner.now (view_data tsig.now)) }
 {
     feed_key_variables(hasher, owner, tsig);
     feed_timers(hasher, tsig);
@@ -94,12 +84,12 @@ pub(crate) fn feed_mac_input(
     signature: &SignatureView<'_>,
 )
     requires previous { length previous.now < 2 ^ 16 }
-    requires fits { TsigFits signature.now.tsig }
+    requires fits { TsigFits (view_fields signature.now.tsig) }
     requires counted { 1 ≤ additionals }
     requires ahead { 12 ≤ signature.now.start }
     requires inside { signature.now.start ≤ length octets.now }
     ensures { (hash : HmacHash) (key m : List ℕ) → Feeds hasher.old hash key m
-        → Feeds hasher.new hash key (m ++ mac_input (Some previous.now) first additionals octets.now signature.now.start signature.now.name (tsig_view signature.now.tsig)) }
+        → Feeds hasher.new hash key (m ++ mac_input (Some previous.now) first additionals octets.now signature.now.start signature.now.name (view_data signature.now.tsig)) }
 {
     feed_prior_mac(hasher, previous);
     feed_message(
@@ -119,9 +109,9 @@ pub(crate) fn feed_mac_input(
 /// Feeds what is under the MAC of a request that is to be signed.
 #[tactic(auto, unfolding(crate::specs::Tsig::signing_input, crate::specs::Tsig::prior_mac))]
 pub(crate) fn feed_request(hasher: &mut Hmac, octets: &[u8], owner: &Name, tsig: &TsigView<'_>)
-    requires { TsigFits tsig.now }
+    requires { TsigFits (view_fields tsig.now) }
     ensures { (hash : HmacHash) (key m : List ℕ) → Feeds hasher.old hash key m
-        → Feeds hasher.new hash key (m ++ signing_input None true octets.now owner.now (tsig_view tsig.now)) }
+        → Feeds hasher.new hash key (m ++ signing_input None true octets.now owner.now (view_data tsig.now)) }
 {
     hasher.update(octets);
     feed_variables(hasher, owner, tsig);

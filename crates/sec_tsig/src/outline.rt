@@ -4,12 +4,14 @@ ghost use Rattle.std.specs.Option.{ForSome};
 ghost use Rattle.dns_wire.specs.Reading.{octets, place, Gives, Reads};
 ghost use Rattle.dns_grammar.specs.Tables.{short_table};
 ghost use Rattle.dns_grammar.specs.Messages.{all_pass, end_of, last_at, last_outline, outline_at, outline_behind, queries_at, record_at, records_at, type_passes};
-ghost use Rattle.sec_tsig.specs.Views.{header_view, is_one_of, last_view, outline_view, type_at, IsPlaced, TsigFits, Reaches, Yields};
+ghost use Rattle.sec_tsig.specs.Views.{header_view, is_one_of, last_view, outline_view, type_at, IsPlaced, Reaches, Yields};
+ghost use Rattle.sec_sigdata.specs.TsigRecords.{view_fields, TsigFits, TsigIsNamed};
 
 use crate::parts::{Header, RecordHead, skip_query};
-use crate::rdata::{skip_rdata, tsig_within};
+use crate::rdata::skip_rdata;
 use crate::signature_view::SignatureView;
 use dns_wire::{BinDecoder, DecodeError, RecordType};
+use sec_sigdata::TsigView;
 
 /// A message in its own octets, its lists left out.
 #[derive(Clone, Copy, Debug)]
@@ -81,7 +83,7 @@ fn read_last<'a>(
     ensures exact { Reads last_view result (place decoder.old) (place decoder.new) (last_outline (is_one_of types.now) (last_at short_table count (octets decoder.old) (place decoder.old))) }
     ensures octets { octets decoder.new ≡ octets decoder.old }
     ensures forward { place decoder.old ≤ place decoder.new }
-    ensures start { IfOk result (λ x. ForSome x.0 (λ s. (s.start ≡ place decoder.old) × (1 ≤ count) × TsigFits s.tsig)) }
+    ensures start { IfOk result (λ x. ForSome x.0 (λ s. (s.start ≡ place decoder.old) × (1 ≤ count) × TsigFits (view_fields s.tsig) × TsigIsNamed (view_fields s.tsig))) }
 {
     if count == 0 {
         return Ok((None, true));
@@ -99,7 +101,7 @@ fn read_last<'a>(
     }
     let end = reader.index() + usize::from(head.length);
     // A `match`, since the check has no rule for `?` at a value that holds a name and a reference.
-    match tsig_within(reader, end) {
+    match TsigView::read_within(reader, end) {
         Ok(tsig) => {
             reader.set_index(end);
             *decoder = reader;

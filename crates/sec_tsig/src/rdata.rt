@@ -1,45 +1,14 @@
 //! The data of records, read or passed in the octets of a message.
-ghost use Rattle.std.specs.Prelude.{◌≡◌, ◌≤◌, length, IfOk};
-ghost use Rattle.dns_wire.specs.Reading.{octets, place, Gives};
+ghost use Rattle.std.specs.Prelude.{◌≡◌, ◌≤◌, length};
+ghost use Rattle.dns_wire.specs.Reading.{octets, place};
 ghost use Rattle.dns_grammar.specs.RecordData.{row_at, rdata_at};
-ghost use Rattle.dns_grammar.specs.Tables.{a_row, tsig_row, short_table};
+ghost use Rattle.dns_grammar.specs.Tables.{a_row, short_table};
 ghost use Rattle.dns_grammar.specs.Messages.{end_of};
-ghost use Rattle.sec_tsig.specs.Views.{tsig_view_values, is_row, Passes, TsigFits};
+ghost use Rattle.sec_tsig.specs.Views.{is_row, Passes};
 
-use crate::signature_view::TsigView;
 use dns_grammar::expect_end;
-use dns_wire::{BinDecoder, DecodeError, Name, RecordType};
-
-/// The data of a TSIG record, which fill the octets up to `end`.
-#[tactic(auto, unfolding(dns_grammar::specs::RecordData::row_at))]
-pub(crate) fn tsig_within(
-    mut reader: BinDecoder<'_>,
-    end: usize,
-) -> Result<TsigView<'_>, DecodeError>
-    requires ahead { place reader ≤ end }
-    requires inside { end ≤ length (octets reader) }
-    ensures exact { Gives tsig_view_values result (row_at tsig_row (octets reader.entry) (place reader.entry) end) }
-    ensures fits { IfOk result TsigFits }
-{
-    let start = reader.index();
-    let algorithm = Name::read_within(&mut reader, end)?;
-    let time = reader.read_time_within(end)?;
-    let fudge = reader.read_u16_within(end)?;
-    let mac = reader.read_counted16_within(end)?;
-    let oid = reader.read_u16_within(end)?;
-    let error = reader.read_u16_within(end)?;
-    let other = reader.read_counted16_within(end)?;
-    expect_end(&reader, start, end)?;
-    Ok(TsigView {
-        algorithm,
-        time,
-        fudge,
-        mac,
-        oid,
-        error,
-        other,
-    })
-}
+use dns_wire::{BinDecoder, DecodeError, RecordType};
+use sec_sigdata::TsigView;
 
 /// Whether an address fills the octets up to `end`.
 #[tactic(auto, unfolding(dns_grammar::specs::RecordData::row_at))]
@@ -63,7 +32,7 @@ fn check_within(reader: BinDecoder<'_>, rtype: RecordType, end: usize) -> Result
     if rtype == RecordType::A {
         check_a(reader, end)
     } else if rtype == RecordType::TSIG {
-        match tsig_within(reader, end) {
+        match TsigView::read_within(reader, end) {
             Ok(_) => Ok(()),
             Err(fault) => Err(fault),
         }

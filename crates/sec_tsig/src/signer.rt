@@ -1,22 +1,27 @@
 //! Signing requests.
-ghost use Rattle.std.specs.Prelude.{◌≡◌, ◌<◌, ◌≤◌, ◌^◌, [], ◌∷◌, ◌++◌, length, Some, None, Ok, IfOk, OnSome};
+ghost use Rattle.std.specs.Prelude.{◌≡◌, ◌<◌, ◌≤◌, ◌^◌, [], ◌++◌, length, Some, None, Ok, IfOk, OnSome};
 ghost use Rattle.std.specs.Option.{option_map, option_and_then};
 ghost use Rattle.std.specs.Result.{result_ok};
 ghost use Rattle.sec_digest.specs.Hmac.{Feeds, mac_len};
 ghost use Rattle.sec_digest.specs.Mac.{mac_octets};
-ghost use Rattle.sec_tsig.specs.Views.{header_view, signature_view, tsig_view, TsigFits};
+ghost use Rattle.std.specs.Str.{bytes_eq};
+ghost use Rattle.dns_wire.specs.Names.{wire};
+ghost use Rattle.sec_sigdata.specs.TsigAlgorithms.{algorithm_name, algorithm_of, algorithm_with};
+ghost use Rattle.sec_sigdata.specs.TsigRecords.{view_data, view_fields, TsigFits, TsigIsNamed};
+ghost use Rattle.sec_tsig.specs.Views.{header_view, signature_view};
 ghost use Rattle.sec_tsig.specs.Tsig.{join, tsig_record};
-ghost use Rattle.sec_tsig.specs.Verdict.{algorithm_name, has_signers_key};
+ghost use Rattle.sec_tsig.specs.Verdict.{has_signers_key};
 ghost use Rattle.sec_tsig.specs.FirstMessages.{request_header, request_tsig, request_mac, signed_request};
 
 use crate::mac_input::feed_request;
 use crate::outline::Outline;
 use crate::parts::Header;
-use crate::signature_view::{SignatureView, TsigView};
+use crate::signature_view::SignatureView;
 use crate::tsig_record::with_tsig;
 use crate::verifier::FirstVerifier;
-use dns_wire::{EmitError, Label, Name, RecordType};
+use dns_wire::{EmitError, Name, RecordType};
 use sec_digest::{Hmac, HmacHash, Mac};
+use sec_sigdata::{TsigAlgorithm, TsigView};
 use std::alloc::{AllocError, Global};
 use std::fmt;
 use std::marker::Model;
@@ -82,31 +87,15 @@ impl From<EmitError> for FirstSignError {
     }
 }
 
-/// The name of an algorithm.
-fn algorithm_name(algorithm: HmacHash) -> Name
-    ensures { result ≡ algorithm_name algorithm }
+/// Whether an algorithm is HMAC with a hash function, the MAC not cut.
+fn is_hmac(algorithm: &TsigAlgorithm, hash: HmacHash) -> bool
+    requires { algorithm.now ≡ algorithm_of (algorithm_name algorithm.now) }
+    ensures { result ≡ bytes_eq (wire (algorithm_name (algorithm_with hash))) (wire (algorithm_name algorithm.now)) }
 {
-    let text = match algorithm {
-        HmacHash::Sha256 => b"hmac-sha256",
-        HmacHash::Sha384 => b"hmac-sha384",
-        HmacHash::Sha512 => b"hmac-sha512",
-    };
-    name_of_label(text)
-}
-
-/// A name of one label.
-fn name_of_label(octets: &[u8]) -> Name
-    requires nonempty { 0 < length octets.now }
-    requires at_most_63 { length octets.now ≤ 63 }
-    ensures { result ≡ octets.now ∷ [] }
-{
-    let Ok(label) = Label::from_bytes(octets) else {
-        unreachable!()
-    };
-    let Ok(name) = Name::from_labels(&[label]) else {
-        unreachable!()
-    };
-    name
+    match algorithm.hmac_hash() {
+        Some(found) => found == hash,
+        None => false,
+    }
 }
 
 /// The header of a request, where the octets are one message of records of types A and OPT.
@@ -169,26 +158,26 @@ impl FirstSigner {
 
     /// Whether a TSIG names the key and its algorithm.
     pub(crate) fn has_key_of(&self, signature: &SignatureView<'_>) -> bool
+        requires { TsigIsNamed (view_fields signature.now.tsig) }
         ensures { result ≡ has_signers_key self.now (signature_view signature.now) }
     {
-        self.name == signature.name
-            && algorithm_name(self.algorithm).as_wire() == signature.tsig.algorithm.as_wire()
+        self.name == signature.name && is_hmac(&signature.tsig.algorithm, self.algorithm)
     }
 
     /// The data of the TSIG record of a request with this ID.
     fn request_tsig<'a>(&self, id: u16, time: u64, mac: &'a [u8]) -> TsigView<'a>
         requires time { time < 2 ^ 48 }
         requires mac { length mac.now < 2 ^ 16 }
-        ensures value { tsig_view result ≡ request_tsig self.now time id mac.now }
-        ensures fits { TsigFits result }
+        ensures value { view_data result ≡ request_tsig self.now time id mac.now }
+        ensures fits { TsigFits (view_fields result) }
     {
         TsigView {
-            algorithm: algorithm_name(self.algorithm),
+            algorithm: TsigAlgorithm::from(self.algorithm),
             time,
             fudge: self.fudge,
             mac,
             oid: id,
-            error: 0,
+            error: None,
             other: &[],
         }
     }

@@ -2,7 +2,8 @@ use Rattle.std.proofs.Common.{◌≡◌, length, refl, ap, arith, rules}
 use Rattle.std.proofs.lemmas.Result.{err_from_is_err_and}
 use Rattle.dns_wire.specs.Reading.{octets, place}
 use Rattle.dns_grammar.specs.Tables.{short_table}
-use Rattle.sec_tsig.specs.Views.{head_view, is_one_of, tsig_view}
+use Rattle.sec_sigdata.specs.TsigRecords.{view_data}
+use Rattle.sec_tsig.specs.Views.{head_view, is_one_of}
 use Rattle.sec_tsig.proofs.LastSteps.{ends, fails, for_some, same_type, signed}
 use Rattle.sec_tsig.proofs.outline.read_last.Goals as goal
 
@@ -25,10 +26,10 @@ returns-then-ne-clause-exact c =
 pub returns-in-Ok-clause-exact : goal.returns-in-Ok-clause-exact
 returns-in-Ok-clause-exact c =
     rw (c.contains-pass.ensures.value, c.set_index.ensures.place, c.index.ensures.place, c.from-2.ensures)
-    (signed (is_one_of c.args.types.now) c.args.count (octets c.args.decoder.now) (place c.args.decoder.now) (head_view c.in_ok-head.head) (place c.read.new.decoder) (tsig_view c.in-Ok.tsig)
+    (signed (is_one_of c.args.types.now) c.args.count (octets c.args.decoder.now) (place c.args.decoder.now) (head_view c.in_ok-head.head) (place c.read.new.decoder) (view_data c.in-Ok.tsig)
     c.if-count-eq0.false c.in_ok-head.ensures.exact (same_type _ _ _ c.if-ne.false c.ne.ensures)
     (let inside : length (octets c.read.new.decoder) ≡ length (octets c.args.decoder.now) = ap length c.in_ok-head.ensures.octets in omega (arith, c.len.ensures, c.from.ensures, c.if-len-from.false))
     c.if-head-eq0.false (rw (c.in_ok-head.ensures.octets, c.index.ensures.place, c.from-2.ensures) at c.in-Ok.ensures.exact))
 
 pub returns-in-Ok-clause-start : goal.returns-in-Ok-clause-start
-returns-in-Ok-clause-start c = for_some _ _ (c.in_ok-head.ensures.start, omega arith, c.in-Ok.ensures.fits)
+returns-in-Ok-clause-start c = for_some _ _ (c.in_ok-head.ensures.start, omega arith, c.in-Ok.ensures.fits, c.in-Ok.ensures.named)

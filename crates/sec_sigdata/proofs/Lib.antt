@@ -1,0 +1,5 @@
+mod TheirFields
+pub mod TsigData
+pub mod TsigNames
+pub mod TsigVariables
+mod WrittenFields

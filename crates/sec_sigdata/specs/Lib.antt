@@ -1,0 +1,9 @@
+pub mod Errors
+pub mod HashParameters
+pub mod Nsec
+pub mod Nsec3
+pub mod Signatures
+pub mod TsigAlgorithms
+pub mod TsigErrors
+pub mod TsigRecords
+pub mod TypeLists

@@ -1,0 +1,97 @@
+//! Why a signature is not made or not accepted.
+ghost use Rattle.std.specs.Prelude.{◌≡◌, IfOk};
+
+use crate::tsig_algorithm::TsigAlgorithm;
+use dns_wire::{DecodeError, OutOfMemory};
+use std::alloc::AllocError;
+use thiserror::Error;
+
+/// The answer of a call that signs or checks.
+pub type DnsSecResult<T> = Result<T, DnsSecError>;
+
+/// Why a signature is not made or not accepted.
+#[derive(Debug, PartialEq, Eq, Drop, Error)]
+pub enum DnsSecError {
+    /// The tag is not the MAC of the message.
+    #[error("the MAC is not that of the message")]
+    HmacInvalid,
+    /// A text that stands in the program.
+    #[error("{0}")]
+    Message(&'static str),
+    /// A text that was made.
+    #[error("{0}")]
+    Msg(String),
+    /// Octets that were not read.
+    #[error("{0}")]
+    Proto(DecodeError),
+    /// An algorithm whose MACs are not made.
+    #[error("no MACs of algorithm {0}")]
+    TsigUnsupportedMacAlgorithm(TsigAlgorithm),
+    /// Another key or algorithm than the signer's.
+    #[error("TSIG by another key")]
+    TsigWrongKey,
+    /// There was no memory.
+    #[error("out of memory")]
+    OutOfMemory,
+}
+
+impl DnsSecError {
+    ghost use Rattle.sec_sigdata.specs.Errors.{IsCopyOf};
+
+    /// A copy of the error.
+    ///
+    /// # Errors
+    ///
+    /// Want of memory.
+    pub fn try_clone(&self) -> Result<DnsSecError, OutOfMemory>
+        ensures { IfOk result (λ copy. IsCopyOf copy self.now) }
+    {
+        Ok(match self {
+            DnsSecError::HmacInvalid => DnsSecError::HmacInvalid,
+            DnsSecError::Message(text) => DnsSecError::Message(text),
+            DnsSecError::Msg(text) => DnsSecError::Msg(text.clone()?),
+            DnsSecError::Proto(error) => DnsSecError::Proto(*error),
+            DnsSecError::TsigUnsupportedMacAlgorithm(algorithm) => {
+                DnsSecError::TsigUnsupportedMacAlgorithm(*algorithm)
+            }
+            DnsSecError::TsigWrongKey => DnsSecError::TsigWrongKey,
+            DnsSecError::OutOfMemory => DnsSecError::OutOfMemory,
+        })
+    }
+}
+
+impl From<String> for DnsSecError {
+    ghost use Rattle.std.specs.Prelude.{◌≡◌};
+    ghost use Rattle.sec_sigdata.specs.declared.error.DnsSecError.TheVariants.{Msg};
+
+    ghost from_gives = { λ text e. e ≡ Msg text };
+
+    fn from(text: String) -> DnsSecError {
+        DnsSecError::Msg(text)
+    }
+}
+
+impl From<&'static str> for DnsSecError {
+    ghost use Rattle.std.specs.Prelude.{◌≡◌};
+    ghost use Rattle.sec_sigdata.specs.declared.error.DnsSecError.TheVariants.{Message};
+
+    ghost from_gives = { λ text e. e ≡ Message text };
+
+    fn from(text: &'static str) -> DnsSecError {
+        DnsSecError::Message(text)
+    }
+}
+
+impl From<AllocError> for DnsSecError {
+    ghost use Rattle.std.specs.Prelude.{◌≡◌};
+    ghost use Rattle.sec_sigdata.specs.declared.error.DnsSecError.TheVariants.{OutOfMemory};
+
+    ghost from_gives = { λ _ e. e ≡ OutOfMemory };
+
+    fn from(_e: AllocError) -> DnsSecError {
+        DnsSecError::OutOfMemory
+    }
+}
+
+#[cfg(test)]
+mod tests;

@@ -1,0 +1,158 @@
+//! NSEC records: which name is next in a zone, and which types there are at this one (RFC 4034 4).
+ghost use Rattle.std.specs.Prelude.{◌≡◌, ◌++◌, ◌∷◌, [], Some, IfOk};
+ghost use Rattle.dns_wire.specs.Reading.{ReadsUnless};
+ghost use Rattle.dns_wire.specs.TypeSets.{form_of, is_one_of, types};
+ghost use Rattle.dns_grammar.specs.Fields.{fields_octets};
+ghost use Rattle.dns_grammar.specs.RecordData.{data_at};
+ghost use Rattle.dns_grammar.specs.SignatureRows.{nsec_row};
+ghost use Rattle.sec_sigdata.specs.TypeLists as specs;
+ghost use Rattle.sec_sigdata.specs.Nsec.{nsec_data, nsec_values, nsec_text};
+
+use crate::type_list::{TypesText, is_ancestor_delegation};
+use dns_grammar::{Part, data_end, emit_parts};
+use dns_wire::{
+    BinDecoder, BinEncodable, BinEncoder, DecodeError, EmitError, Name, OutOfMemory,
+    RecordDataDecodable, RecordType, RecordTypeIter, RecordTypeSet,
+};
+use std::alloc::Global;
+use std::fmt;
+
+/// The next name of a zone, and the types at a name. A contract sees both, by `nsec_data`.
+#[derive(Debug, PartialEq, Eq, Hash, Drop)]
+pub struct NSEC {
+    next_domain_name: Name,
+    types: RecordTypeSet,
+}
+
+impl NSEC {
+    /// The next name, and exactly these types.
+    ///
+    /// # Errors
+    ///
+    /// Want of memory.
+    pub fn new(
+        alloc: Global,
+        next_domain_name: Name,
+        types: &[RecordType],
+    ) -> Result<NSEC, OutOfMemory>
+        ensures { IfOk result (λ nsec. nsec_data nsec ≡ record { next_domain_name = next_domain_name; types = form_of (is_one_of types.now) }) }
+    {
+        Ok(NSEC {
+            next_domain_name,
+            types: RecordTypeSet::new(alloc, types)?,
+        })
+    }
+
+    /// The next name, and these types with those that every name with an NSEC record has: NSEC itself and RRSIG (RFC 4034 4.1.2).
+    ///
+    /// # Errors
+    ///
+    /// Want of memory.
+    pub fn new_cover_self(
+        alloc: Global,
+        next_domain_name: Name,
+        types: &[RecordType],
+    ) -> Result<NSEC, OutOfMemory>
+        ensures { IfOk result (λ nsec. nsec_data nsec ≡ record { next_domain_name = next_domain_name; types = form_of (is_one_of (types.now ++ specs.nsec_type ∷ specs.rrsig_type ∷ [])) }) }
+    {
+        let mut all = Vec::from_slice(alloc, types)?;
+        all.push(RecordType::NSEC)?;
+        all.push(RecordType::RRSIG)?;
+        NSEC::new(alloc, next_domain_name, all.as_slice())
+    }
+
+    /// The next name of the zone (RFC 4034 4.1.1).
+    pub fn next_domain_name(&self) -> &Name
+        ensures { result.now ≡ (nsec_data self.now).next_domain_name }
+    {
+        &self.next_domain_name
+    }
+
+    /// The types, ascending and each once.
+    pub fn type_bit_maps(&self) -> RecordTypeIter<'_>
+        ensures { result ≡ types (nsec_data self.now).types }
+    {
+        self.types.iter()
+    }
+
+    /// The set of the types (RFC 4034 4.1.2).
+    pub fn type_set(&self) -> &RecordTypeSet
+        ensures { result.now ≡ (nsec_data self.now).types }
+    {
+        &self.types
+    }
+
+    /// Whether the types have DNAME, or NS without SOA: those of a delegation as the zone above sees it, or of a subtree under another
+    /// name (RFC 6840 4.1).
+    pub fn is_ancestor_delegation(&self) -> bool
+        ensures { result ≡ specs.is_ancestor_delegation (nsec_data self.now).types }
+    {
+        is_ancestor_delegation(&self.types)
+    }
+
+    /// A copy of the data.
+    ///
+    /// # Errors
+    ///
+    /// Want of memory.
+    pub fn try_clone(&self) -> Result<NSEC, OutOfMemory>
+        ensures { IfOk result (λ copy. copy ≡ self.now) }
+    {
+        Ok(NSEC {
+            next_domain_name: self.next_domain_name,
+            types: self.types.try_clone()?,
+        })
+    }
+}
+
+impl<'r> RecordDataDecodable<'r> for NSEC {
+    ghost is_read = { λ len m p result q. ReadsUnless (λ nsec. nsec_values (nsec_data nsec)) result p q (data_at nsec_row m p len) };
+
+    /// Reads the next name and the types.
+    ///
+    /// # Errors
+    ///
+    /// `InsufficientBytes` where an octet is needed past the data, `NameMalformed`, `BitmapMalformed`, or `OutOfMemory`.
+    #[tactic(auto, unfolding(dns_grammar::specs::RecordData::data_at, dns_grammar::specs::RecordData::row_at))]
+    fn read_data(
+        alloc: Global,
+        decoder: &mut BinDecoder<'r>,
+        length: u16,
+    ) -> Result<NSEC, DecodeError> {
+        let end = data_end(decoder, length)?;
+        let mut reader = *decoder;
+        let next_domain_name = Name::read_within(&mut reader, end)?;
+        let types = RecordTypeSet::read_within(alloc, &mut reader, end)?;
+        *decoder = reader;
+        Ok(NSEC {
+            next_domain_name,
+            types,
+        })
+    }
+}
+
+impl BinEncodable for NSEC {
+    ghost written = { λ canonical _ nsec. fields_octets canonical nsec_row (nsec_values (nsec_data nsec)) };
+
+    fn emit(&self, encoder: &mut BinEncoder) -> Result<(), EmitError> {
+        emit_parts(
+            encoder,
+            &[
+                Part::Kept(&self.next_domain_name),
+                Part::Octets(self.types.as_octets()),
+            ],
+        )
+    }
+}
+
+/// The next name, and each type (RFC 4034 4.2).
+impl fmt::Display for NSEC {
+    ghost output = { λ nsec. Some (nsec_text (nsec_data nsec)) };
+
+    fn fmt<W: fmt::Write>(&self, f: &mut fmt::Formatter<W>) -> fmt::Result {
+        write!(f, "{}{}", self.next_domain_name, TypesText(&self.types))
+    }
+}
+
+#[cfg(test)]
+mod tests;

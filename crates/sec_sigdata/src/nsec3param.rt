@@ -1,0 +1,139 @@
+//! NSEC3PARAM records: how a zone's server hashes its names (RFC 5155 4).
+ghost use Rattle.std.specs.Prelude.{◌≡◌, Some, IfOk};
+ghost use Rattle.dns_wire.specs.Reading.{ReadsUnless};
+ghost use Rattle.dns_grammar.specs.Fields.{fields_octets};
+ghost use Rattle.dns_grammar.specs.RecordData.{data_at};
+ghost use Rattle.dns_grammar.specs.SignatureRows.{nsec3param_row};
+ghost use Rattle.sec_sigdata.specs.HashParameters.{opt_out_flags, nsec3param_data, hash_values, hash_text};
+
+use crate::hash_parameters::HashParameters;
+use dns_grammar::{Part, data_end, emit_parts, expect_end};
+use dns_wire::{
+    BinDecoder, BinEncodable, BinEncoder, DecodeError, EmitError, Octets, OutOfMemory,
+    RecordDataDecodable,
+};
+use sec_digest::Nsec3HashAlgorithm;
+use std::alloc::Global;
+use std::fmt;
+
+/// How the names of a zone are hashed. A contract sees the parameters, by `nsec3param_data`.
+#[derive(Debug, PartialEq, Eq, Hash, Drop)]
+pub struct NSEC3PARAM(HashParameters);
+
+impl NSEC3PARAM {
+    /// These parameters.
+    pub fn new(
+        hash_algorithm: Nsec3HashAlgorithm,
+        opt_out: bool,
+        iterations: u16,
+        salt: Vec<u8>,
+    ) -> NSEC3PARAM
+        ensures { nsec3param_data result ≡ record { hash_algorithm = hash_algorithm; opt_out = opt_out; iterations = iterations; salt = salt.items } }
+    {
+        NSEC3PARAM(HashParameters {
+            hash_algorithm,
+            opt_out,
+            iterations,
+            salt: Octets::from_vec(salt),
+        })
+    }
+
+    /// The hash algorithm (RFC 5155 4.1.1).
+    pub fn hash_algorithm(&self) -> Nsec3HashAlgorithm
+        ensures { result ≡ (nsec3param_data self.now).hash_algorithm }
+    {
+        self.0.hash_algorithm
+    }
+
+    /// Whether the flag Opt-Out is set (RFC 5155 4.1.2).
+    pub fn opt_out(&self) -> bool
+        ensures { result ≡ (nsec3param_data self.now).opt_out }
+    {
+        self.0.opt_out
+    }
+
+    /// How often the hash is applied again (RFC 5155 4.1.3).
+    pub fn iterations(&self) -> u16
+        ensures { result ≡ (nsec3param_data self.now).iterations }
+    {
+        self.0.iterations
+    }
+
+    /// The octets behind each name and each hash (RFC 5155 4.1.5).
+    pub fn salt(&self) -> &[u8]
+        ensures { result.now ≡ (nsec3param_data self.now).salt }
+    {
+        self.0.salt.as_slice()
+    }
+
+    /// The flags (RFC 5155 4.1.2): 1 for Opt-Out, and else 0.
+    pub fn flags(&self) -> u8
+        ensures { result ≡ opt_out_flags (nsec3param_data self.now).opt_out }
+    {
+        self.0.flags()
+    }
+
+    /// A copy of the data.
+    ///
+    /// # Errors
+    ///
+    /// Want of memory.
+    pub fn try_clone(&self) -> Result<NSEC3PARAM, OutOfMemory>
+        ensures { IfOk result (λ copy. copy ≡ self.now) }
+    {
+        Ok(NSEC3PARAM(self.0.try_clone()?))
+    }
+}
+
+impl<'r> RecordDataDecodable<'r> for NSEC3PARAM {
+    ghost is_read = { λ len m p result q. ReadsUnless (λ param. hash_values (nsec3param_data param)) result p q (data_at nsec3param_row m p len) };
+
+    /// Reads hash algorithm, flags, iterations and salt.
+    ///
+    /// # Errors
+    ///
+    /// `InsufficientBytes` where an octet is needed past the data, `UnknownNsec3HashAlgorithm`, `UnrecognizedNsec3Flags`,
+    /// `IncorrectRDataLengthRead` where octets are left over, or `OutOfMemory`.
+    #[tactic(auto, unfolding(dns_grammar::specs::RecordData::data_at, dns_grammar::specs::RecordData::row_at))]
+    fn read_data(
+        alloc: Global,
+        decoder: &mut BinDecoder<'r>,
+        length: u16,
+    ) -> Result<NSEC3PARAM, DecodeError> {
+        let end = data_end(decoder, length)?;
+        let mut reader = *decoder;
+        let parameters = HashParameters::read_within(alloc, &mut reader, end)?;
+        expect_end(&reader, decoder.index(), end)?;
+        *decoder = reader;
+        Ok(NSEC3PARAM(parameters))
+    }
+}
+
+impl BinEncodable for NSEC3PARAM {
+    ghost written = { λ canonical _ param. fields_octets canonical nsec3param_row (hash_values (nsec3param_data param)) };
+
+    fn emit(&self, encoder: &mut BinEncoder) -> Result<(), EmitError> {
+        let parameters = &self.0;
+        emit_parts(
+            encoder,
+            &[
+                Part::U8(parameters.hash_algorithm.into()),
+                Part::U8(parameters.flags()),
+                Part::U16(parameters.iterations),
+                Part::Counted8(parameters.salt.as_slice(), EmitError::SaltTooLong),
+            ],
+        )
+    }
+}
+
+/// Hash number, flags, iterations, salt in upper-case hexadecimal or `-` for none (RFC 5155 4.3).
+impl fmt::Display for NSEC3PARAM {
+    ghost output = { λ param. Some (hash_text (nsec3param_data param)) };
+
+    fn fmt<W: fmt::Write>(&self, f: &mut fmt::Formatter<W>) -> fmt::Result {
+        write!(f, "{}", self.0)
+    }
+}
+
+#[cfg(test)]
+mod tests;

@@ -1,0 +1,78 @@
+//! RRSIG records: signatures of record sets (RFC 4034 3).
+ghost use Rattle.std.specs.Prelude.{◌≡◌, Some, IfOk};
+ghost use Rattle.dns_grammar.specs.Fields.{fields_octets};
+ghost use Rattle.dns_grammar.specs.SignatureRows.{sig_row};
+ghost use Rattle.sec_sigdata.specs.Signatures.{sig_data, rrsig_data, sig_values, sig_text, sig_is_read};
+
+use crate::sig::SIG;
+use crate::sig_input::SigInput;
+use dns_wire::{
+    BinDecoder, BinEncodable, BinEncoder, DecodeError, EmitError, OutOfMemory, RecordDataDecodable,
+};
+use std::alloc::Global;
+use std::fmt;
+use std::ops::Deref;
+
+/// A signature of a record set, in the fields of a SIG. A contract sees its parts, by `rrsig_data`.
+#[derive(Debug, PartialEq, Eq, Hash, Drop)]
+pub struct RRSIG(SIG);
+
+impl RRSIG {
+    /// A signature behind these fields.
+    pub fn from_sig(input: SigInput, sig: Vec<u8>) -> RRSIG
+        ensures { rrsig_data result ≡ record { input = input; sig = sig.items } }
+    {
+        RRSIG(SIG::new(input, sig))
+    }
+
+    /// A copy of the data.
+    ///
+    /// # Errors
+    ///
+    /// Want of memory.
+    pub fn try_clone(&self) -> Result<RRSIG, OutOfMemory>
+        ensures { IfOk result (λ copy. copy ≡ self.now) }
+    {
+        Ok(RRSIG(self.0.try_clone()?))
+    }
+}
+
+impl Deref for RRSIG {
+    type Target = SIG;
+
+    ghost deref_gives = { λ rrsig sig. sig_data sig ≡ rrsig_data rrsig };
+
+    fn deref(&self) -> &SIG {
+        &self.0
+    }
+}
+
+impl<'r> RecordDataDecodable<'r> for RRSIG {
+    ghost is_read = { sig_is_read rrsig_data };
+
+    /// Reads the fields of a SIG, with its errors.
+    fn read_data(
+        alloc: Global,
+        decoder: &mut BinDecoder<'r>,
+        length: u16,
+    ) -> Result<RRSIG, DecodeError> {
+        Ok(RRSIG(SIG::read_data(alloc, decoder, length)?))
+    }
+}
+
+impl BinEncodable for RRSIG {
+    ghost written = { λ canonical _ rrsig. fields_octets canonical sig_row (sig_values (rrsig_data rrsig)) };
+
+    fn emit(&self, encoder: &mut BinEncoder) -> Result<(), EmitError> {
+        self.0.emit(encoder)
+    }
+}
+
+/// The text of a SIG (RFC 4034 3.2).
+impl fmt::Display for RRSIG {
+    ghost output = { λ rrsig. Some (sig_text (rrsig_data rrsig)) };
+
+    fn fmt<W: fmt::Write>(&self, f: &mut fmt::Formatter<W>) -> fmt::Result {
+        write!(f, "{}", self.0)
+    }
+}

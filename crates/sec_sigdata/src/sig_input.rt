@@ -1,0 +1,87 @@
+//! What stands before the signature in SIG and RRSIG records (RFC 2535 4.1, RFC 4034 3.1).
+ghost use Rattle.std.specs.Prelude.{◌≡◌, Some};
+ghost use Rattle.dns_grammar.specs.Fields.{fields_octets};
+ghost use Rattle.sec_sigdata.specs.Signatures.{input_row, input_values, kind_text, times_text};
+
+use dns_grammar::{Part, emit_parts};
+use dns_wire::{BinEncodable, BinEncoder, EmitError, Name, RecordType, SerialNumber};
+use sec_codes::Algorithm;
+use std::fmt;
+
+/// The fields of a signature's data before the signature.
+#[derive(Clone, Copy, Debug, PartialEq, Eq, Hash)]
+pub struct SigInput {
+    /// The type of the records that are signed (RFC 4034 3.1.1).
+    pub type_covered: RecordType,
+    /// The algorithm of the signature (RFC 4034 3.1.2).
+    pub algorithm: Algorithm,
+    /// How many labels the name of the records has, a `*` in front not counted (RFC 4034 3.1.3).
+    pub num_labels: u8,
+    /// The time to live of the records in their zone, in seconds (RFC 4034 3.1.4).
+    pub original_ttl: u32,
+    /// The last second in which the signature is valid, from the start of 1970 on (RFC 4034 3.1.5).
+    pub sig_expiration: SerialNumber,
+    /// The first second in which the signature is valid (RFC 4034 3.1.5).
+    pub sig_inception: SerialNumber,
+    /// The tag of the key that signed (RFC 4034 3.1.6).
+    pub key_tag: u16,
+    /// The name of the key that signed (RFC 4034 3.1.7).
+    pub signer_name: Name,
+}
+
+/// The fields are written as in a signature's data, in canonical form with the signer's name in lower case (RFC 4034 6.2).
+impl BinEncodable for SigInput {
+    ghost written = { λ canonical _ input. fields_octets canonical input_row (input_values input) };
+
+    fn emit(&self, encoder: &mut BinEncoder) -> Result<(), EmitError> {
+        emit_parts(
+            encoder,
+            &[
+                Part::U16(self.type_covered.into()),
+                Part::U8(self.algorithm.into()),
+                Part::U8(self.num_labels),
+                Part::U32(self.original_ttl),
+                Part::U32(self.sig_expiration.0),
+                Part::U32(self.sig_inception.0),
+                Part::U16(self.key_tag),
+                Part::Lowered(&self.signer_name),
+            ],
+        )
+    }
+}
+
+/// The first three fields, as they are printed.
+#[derive(Clone, Copy)]
+pub(crate) struct KindText<'a>(pub(crate) &'a SigInput);
+
+impl fmt::Display for KindText<'_> {
+    ghost output = { λ text. Some (kind_text text.0.now) };
+
+    #[tactic(auto, unfolding(crate::specs::Signatures::kind_text))]
+    fn fmt<W: fmt::Write>(&self, f: &mut fmt::Formatter<W>) -> fmt::Result {
+        let input = self.0;
+        write!(
+            f,
+            "{} {} {}",
+            input.type_covered, input.algorithm, input.num_labels
+        )
+    }
+}
+
+/// The original TTL, the times and the key tag, as they are printed.
+#[derive(Clone, Copy)]
+pub(crate) struct TimesText<'a>(pub(crate) &'a SigInput);
+
+impl fmt::Display for TimesText<'_> {
+    ghost output = { λ text. Some (times_text text.0.now) };
+
+    #[tactic(auto, unfolding(crate::specs::Signatures::times_text))]
+    fn fmt<W: fmt::Write>(&self, f: &mut fmt::Formatter<W>) -> fmt::Result {
+        let input = self.0;
+        write!(
+            f,
+            "{} {} {} {}",
+            input.original_ttl, input.sig_expiration.0, input.sig_inception.0, input.key_tag
+        )
+    }
+}
