@@ -1,3 +1,4 @@
+mod DigestTextsBack
 mod KnownFlags
 mod SameTags
 mod TagSums

@@ -1,5 +1,5 @@
 -- Data of the same octets have the same tag.
-use Rattle.std.proofs.Common.{◌≡◌, ℕ, ◌+◌, false, List, [], length, Result, Ok, Err, cond, ltb, ap, ◌∙◌, arith, length-append}
+use Rattle.std.proofs.Common.{◌≡◌, ◌+◌, false, [], length, Ok, Err, cond, ltb, ap, arith, length-append}
 use Rattle.std.specs.Result.{result_unwrap_or}
 use Rattle.dns_wire.specs.Reading.{◌>>=◌}
 use Rattle.dns_grammar.specs.Fields.{fields_octets}

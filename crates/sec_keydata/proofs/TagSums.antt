@@ -1,5 +1,5 @@
 -- Sums of octets at even and at odd places.
-use Rattle.std.proofs.Common.{◌≡◌, ◌≤◌, ◌<◌, ℕ, zero, suc, Bool, true, false, ◌+◌, ◌*◌, ◌%◌, cond, eqb, List, [], ◌∷◌, ◌++◌, length, take, get_or, Result, Ok, ap, refl, sym, ◌∙◌, add-one, arith}
+use Rattle.std.proofs.Common.{◌≡◌, ◌≤◌, ◌<◌, ℕ, zero, suc, Bool, true, false, ◌+◌, ◌*◌, ◌%◌, cond, eqb, List, [], ◌∷◌, ◌++◌, length, take, get_or, Result, Ok, ap, sym, ◌∙◌, add-one, arith}
 use Rattle.std.proofs.lemmas.List.{take_all}
 use Rattle.std.specs.List.{sum}
 use Rattle.std.proofs.lemmas.List.Sums.{sum_by-cons}

@@ -1,10 +1,11 @@
 -- What is printed of a DNSKEY is read as the DNSKEY.
-use Rattle.std.proofs.Common.{◌≡◌, ◌<◌, ◌+◌, ◌*◌, ◌/◌, ◌%◌, ◌^◌, ℕ, zero, suc, Bool, true, false, ltb, ◌||◌, List, [], ◌∷◌, ◌++◌, length, get_or, replicate, Result, Ok, Err, Some, refl, sym, ap, subst, ◌∙◌, append_assoc, arith, codes, append-nil, length-append}
+use Rattle.std.proofs.Common.{◌≡◌, ◌<◌, ◌+◌, ◌*◌, ◌/◌, ◌%◌, ◌^◌, ℕ, zero, suc, Bool, true, false, ◌||◌, List, [], ◌∷◌, ◌++◌, length, get_or, replicate, Result, Ok, Err, Some, refl, sym, ap, subst, ◌∙◌, append_assoc, arith, codes, append-nil, length-append}
 use Rattle.std.specs.Char.{is_ascii_digit, digit_value}
 use Rattle.std.specs.Fmt.{decimal}
 use Rattle.std.specs.List.{AllByRecursion, list_all, list_any, before_first, after_first, slice_index}
+use Rattle.std.specs.Option.{ok_or}
 use Rattle.std.specs.Str.{bytes_eq}
-use Rattle.std.specs.Str.Parse.{AllDigits, digits_value}
+use Rattle.std.specs.Str.Parse.{AllDigits}
 use Rattle.std.proofs.lemmas.Bool.{lt-ltb}
 use Rattle.std.proofs.lemmas.Bool.Decides.{nat_tests}
 use Rattle.std.proofs.lemmas.List.{nil_from_length}
@@ -19,13 +20,13 @@ use Rattle.dns_io.specs.Words.{is_blank, words, number_below}
 use Rattle.dns_io.proofs.Cuts.{before_yes, before_no, after_yes, after_no, words-cut}
 use Rattle.sec_codes.specs.Algorithms.{algorithm_of, number}
 use Rattle.sec_keydata.specs.declared.token_error.TokenError.{TokenError}
-use Rattle.sec_keydata.specs.declared.token_error.TokenError.TheVariants.{Missing}
+use Rattle.sec_keydata.specs.declared.token_error.TokenError.TheVariants.{Missing, BadNumber}
 use Rattle.sec_keydata.specs.declared.token_error.TokenField.TheVariants.{PublicKey}
 use Rattle.sec_keydata.specs.DnsKeys.{DnsKeyData, DnsKeyIsNamed, dnskey_text}
 use Rattle.sec_keydata.specs.Tokens.{number_in, base64_octets, dnskey_in, token_dnskey}
 
 -- what holds of each element, and of the one that stands for none, holds at each place
-at_place : (P : ℕ → Type 0) (xs : List ℕ) → AllByRecursion P xs → P 0 → (k : ℕ) → P (get_or xs k 0)
+pub at_place : (P : ℕ → Type 0) (xs : List ℕ) → AllByRecursion P xs → P 0 → (k : ℕ) → P (get_or xs k 0)
 at_place P [] all none k = none
 at_place P (x ∷ xs) all none zero = all.0
 at_place P (x ∷ xs) all none (suc k) = at_place P xs all.1 none k
@@ -34,21 +35,21 @@ both : (P : ℕ → Type 0) (xs ys : List ℕ) → AllByRecursion P xs → AllBy
 both P [] ys all more = more
 both P (x ∷ xs) ys all more = (all.0, both P xs ys all.1 more)
 
-copies : (P : ℕ → Type 0) (n x : ℕ) → P x → AllByRecursion P (replicate n x)
+pub copies : (P : ℕ → Type 0) (n x : ℕ) → P x → AllByRecursion P (replicate n x)
 copies P zero x holds = tt
 copies P (suc n) x holds = (holds, copies P n x holds)
 
 -- ---- words
 
 -- no octet is a blank
-abbrev NoBlank : List ℕ → Type 0
+abbrev pub NoBlank : List ℕ → Type 0
 NoBlank = AllByRecursion (λ octet. is_blank octet ≡ false)
 
 neither : (a b : Bool) → (a || b) ≡ false → (a ≡ false) × (b ≡ false)
 neither false b h = (refl, h)
 neither true b h = absurd (cc)
 
-no_blanks : (octets : List ℕ) → list_any is_blank octets ≡ false → NoBlank octets
+pub no_blanks : (octets : List ℕ) → list_any is_blank octets ≡ false → NoBlank octets
 no_blanks [] h = tt
 no_blanks (x ∷ octets) h = let each = neither (is_blank x) (list_any is_blank octets) h in (each.0, no_blanks octets each.1)
 
@@ -61,7 +62,7 @@ after [] blank rest none is = after_yes is_blank blank rest is
 after (x ∷ word) blank rest none is = after_no is_blank x (word ++ blank ∷ rest) none.0 ∙ after word blank rest none.1 is
 
 -- a word before a blank
-word_before : (word : List ℕ) (blank : ℕ) (rest : List ℕ) → NoBlank word → 0 < length word → is_blank blank ≡ true → words (word ++ blank ∷ rest) ≡ word ∷ words rest
+pub word_before : (word : List ℕ) (blank : ℕ) (rest : List ℕ) → NoBlank word → 0 < length word → is_blank blank ≡ true → words (word ++ blank ∷ rest) ≡ word ∷ words rest
 word_before word blank rest none some is =
     let front = before word blank rest none is in
     let behind = after word blank rest none is in
@@ -76,7 +77,7 @@ after_end [] none = refl
 after_end (x ∷ word) none = after_no is_blank x word none.0 ∙ after_end word none.1
 
 -- a word alone
-word_alone : (word : List ℕ) → NoBlank word → 0 < length word → words word ≡ word ∷ []
+pub word_alone : (word : List ℕ) → NoBlank word → 0 < length word → words word ≡ word ∷ []
 word_alone word none some =
     let front = before_end word none in
     words-cut word (subst (λ (t : List ℕ). 0 < length t) (sym front) some) ∙ (ap (λ t. t ∷ words (after_first is_blank word)) front ∙ ap (λ t. word ∷ words t) (after_end word none))
@@ -90,7 +91,7 @@ three_words x y z clear some none more =
 
 -- ---- numbers
 
-digit_is : (c : ℕ) → digit_value c < 10 → is_ascii_digit c ≡ true
+pub digit_is : (c : ℕ) → digit_value c < 10 → is_ascii_digit c ≡ true
 digit_is c h = grind (arith, nat_tests)
 
 digit_no_blank : (c : ℕ) → digit_value c < 10 → is_blank c ≡ false
@@ -100,20 +101,23 @@ digits_are : (digits : List ℕ) → AllDigits 10 digits → list_all is_ascii_d
 digits_are [] h = refl
 digits_are (c ∷ digits) h = rw (digit_is c h.0) (digits_are digits h.1)
 
-digits_no_blank : (digits : List ℕ) → AllDigits 10 digits → NoBlank digits
+pub digits_no_blank : (digits : List ℕ) → AllDigits 10 digits → NoBlank digits
 digits_no_blank [] h = tt
 digits_no_blank (c ∷ digits) h = (digit_no_blank c h.0, digits_no_blank digits h.1)
 
-decimal_no_blank : (n : ℕ) → n < 2 ^ 16 → NoBlank (decimal n)
+pub decimal_no_blank : (n : ℕ) → n < 2 ^ 16 → NoBlank (decimal n)
 decimal_no_blank n small = digits_no_blank (decimal n) (decimal_is_IsNumeral n (omega (arith, small))).0.1
 
-decimal_some : (n : ℕ) → n < 2 ^ 16 → 0 < length (decimal n)
+pub decimal_some : (n : ℕ) → n < 2 ^ 16 → 0 < length (decimal n)
 decimal_some n small = (decimal_is_IsNumeral n (omega (arith, small))).0.0
 
-number_back : (limit n : ℕ) → n < limit → n < 2 ^ 16 → number_in limit (decimal n) ≡ Ok n
-number_back limit n lt small =
+pub number_below-decimal : (limit n : ℕ) → n < limit → n < 2 ^ 16 → number_below limit (decimal n) ≡ Some n
+number_below-decimal limit n lt small =
     let numeral = decimal_is_IsNumeral n (omega (arith, small)) in
     rw (lt-ltb 0 (length (decimal n)) numeral.0.0, digits_are (decimal n) numeral.0.1, numeral.1, lt-ltb n limit lt) refl
+
+pub number_back : (limit n : ℕ) → n < limit → n < 2 ^ 16 → number_in limit (decimal n) ≡ Ok n
+number_back limit n lt small = ap (λ o. ok_or o BadNumber) (number_below-decimal limit n lt small)
 
 -- ---- base64
 

@@ -26,7 +26,7 @@ impl DNSKEY {
     {
         let octets = Vec::from_slice(alloc, public_key.public_bytes())?;
         let key = PublicKeyBuf::new(octets, public_key.algorithm());
-        Ok(DNSKEY::with_flags(257, key))
+        Ok(DNSKEY::new(true, true, false, key))
     }
 
     /// The digest of the key at its owner: of the owner's wire form in lower case, and the data (RFC 4034 5.1.4). Takes no memory.

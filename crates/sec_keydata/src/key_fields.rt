@@ -9,6 +9,7 @@ ghost use Rattle.sec_keydata.specs.KeyFields.{fields_key};
 ghost use Rattle.sec_keydata.specs.KeyTags.{dnskey_octets, dnskey_tag};
 
 use crate::dnskey::DNSKEY;
+use crate::dnskey_flags::flags_of;
 use crate::key_data_error::KeyDataError;
 use crate::key_tag::{fold, octet_sum};
 use dns_wire::Name;
@@ -40,7 +41,7 @@ impl<'a> KeyFields<'a> {
         ensures { fields_key result ≡ entry_key (P.key public_key.now) }
     {
         KeyFields {
-            flags: 257,
+            flags: flags_of(true, true, false),
             algorithm: public_key.algorithm(),
             public_key: public_key.public_bytes(),
         }
@@ -63,7 +64,7 @@ impl<'a> KeyFields<'a> {
         if self.is_too_long() {
             return Err(KeyDataError::DataTooLong);
         }
-        let (front, len) = self.behind(owner);
+        let (front, len) = self.before_key(owner);
         match Digest::from_iter(&front[..len], self.public_key, kind) {
             Ok(digest) => Ok(digest),
             Err(_) => Err(KeyDataError::UnknownDigestAlgorithm(kind.into())),
@@ -71,7 +72,7 @@ impl<'a> KeyFields<'a> {
     }
 
     /// The owner's wire form in lower case and the octets before the key, and how many octets these are.
-    fn behind(&self, owner: &Name) -> ([u8; 259], usize)
+    fn before_key(&self, owner: &Name) -> ([u8; 259], usize)
         ensures at_most { result.1 ≤ 259 }
         ensures octets { take result.1 result.0 ++ self.now.public_key.now ≡ wire (low owner.now) ++ dnskey_octets (fields_key self.now) }
     {

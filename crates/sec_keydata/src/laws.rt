@@ -6,12 +6,13 @@ ghost use Rattle.dns_grammar.specs.Laws.{AreReadBack};
 ghost use Rattle.dns_wire.specs.Octets.{AreOctets};
 ghost use Rattle.sec_codes.specs.Algorithms.{number};
 ghost use Rattle.sec_keydata.specs.declared.token_error.TokenError.TheVariants.{Missing};
-ghost use Rattle.sec_keydata.specs.declared.token_error.TokenField.TheVariants.{PublicKey};
+ghost use Rattle.sec_keydata.specs.declared.token_error.TokenField.TheVariants.{PublicKey, Digest};
+ghost use Rattle.sec_digest.specs.Digests.{digest_number};
 ghost use Rattle.sec_keydata.specs.DnsKeyFlags.{flags_of, is_zone_key, is_secure_entry_point, is_revoked};
 ghost use Rattle.sec_keydata.specs.DnsKeys.{DnsKeyData, CdnsKeyData, DnsKeyIsNamed, CdnsKeyIsNamed, public_key_values, dnskey_values, cdnskey_values, dnskey_text};
-ghost use Rattle.sec_keydata.specs.Tokens.{token_dnskey};
+ghost use Rattle.sec_keydata.specs.Tokens.{token_dnskey, token_ds};
 ghost use Rattle.sec_keydata.specs.KeyTags.{dnskey_octets, dnskey_tag};
-ghost use Rattle.sec_keydata.specs.Digests.{DsData, CdsData, digest_values, ds_values, cds_values, DsIsNamed, CdsIsNamed};
+ghost use Rattle.sec_keydata.specs.Digests.{DsData, CdsData, digest_values, ds_values, ds_text, cds_values, DsIsNamed, CdsIsNamed};
 ghost use Rattle.sec_keydata.specs.KeyData.{KeyData, key_fields, key_values, KeyIsNamed};
 ghost use Rattle.sec_keydata.specs.KeyUses.{trust_code, usage_code, scope_bits, all_flags, protocol_number, protocol_of};
 
@@ -86,4 +87,11 @@ pub fn tags_are_of_octets()
 pub fn key_texts_are_read_back()
     ensures read { (key : DnsKeyData) → key.flags < 2 ^ 16 → number key.public_key.algorithm < 2 ^ 8 → DnsKeyIsNamed key → AreOctets key.public_key.octets → 0 < length key.public_key.octets → token_dnskey (dnskey_text key) ≡ Ok key }
     ensures no_key { (key : DnsKeyData) → key.flags < 2 ^ 16 → number key.public_key.algorithm < 2 ^ 8 → length key.public_key.octets ≡ 0 → token_dnskey (dnskey_text key) ≡ Err (Missing PublicKey) }
+{}
+
+/// What a DS prints is read as the DS, where its algorithm and its digest type are those of their numbers and its digest is not empty.
+#[tactic(auto, using(crate::proofs::DigestTextsBack::digest_text_back, crate::proofs::DigestTextsBack::empty_digest_text_back))]
+pub fn digest_texts_are_read_back()
+    ensures read { (ds : DsData) → ds.key_tag < 2 ^ 16 → number ds.algorithm < 2 ^ 8 → digest_number ds.digest_type < 2 ^ 8 → DsIsNamed ds → AreOctets ds.digest → 0 < length ds.digest → token_ds (ds_text ds) ≡ Ok ds }
+    ensures no_digest { (ds : DsData) → ds.key_tag < 2 ^ 16 → number ds.algorithm < 2 ^ 8 → digest_number ds.digest_type < 2 ^ 8 → length ds.digest ≡ 0 → token_ds (ds_text ds) ≡ Err (Missing Digest) }
 {}

@@ -38,8 +38,8 @@ impl DNSKEY {
             return Err(TokenError::ProtocolNot3);
         }
         let algorithm = Algorithm::from_u8(one_octet_number(algorithm)?);
-        let text = joined_words(alloc, rest, TokenField::PublicKey)?;
-        let octets = base64_octets(alloc, &text)?;
+        let joined = joined_words(alloc, rest, TokenField::PublicKey)?;
+        let octets = base64_octets(alloc, &joined)?;
         Ok(DNSKEY::with_flags(flags, PublicKeyBuf::new(octets, algorithm)))
     }
 }
@@ -62,8 +62,8 @@ impl DS {
         let key_tag = two_octet_number(key_tag)?;
         let algorithm = algorithm_in(algorithm)?;
         let digest_type = DigestType::from(one_octet_number(digest_type)?);
-        let text = joined_words(alloc, rest, TokenField::Digest)?;
-        let digest = hex_octets(alloc, &text)?;
+        let joined = joined_words(alloc, rest, TokenField::Digest)?;
+        let digest = hex_octets(alloc, &joined)?;
         Ok(DS::new(key_tag, algorithm, digest_type, digest))
     }
 }

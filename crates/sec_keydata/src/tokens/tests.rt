@@ -13,12 +13,6 @@ const KEY: &str =
 /// Its digest, in two words.
 const DIGEST: &str = "60485 5 1 2BB183AF5F22588179A53B0A 98631FAD1A292118";
 
-/// The same key with the flags 0, and its digest by SHA-1 as Python's `hashlib` gives it.
-const NO_ZONE_KEY: &str =
-    "0 3 5 AQOeiiR0GOMYkDshWoSKz9XzfwJr1AYtsmx3TGkJaNXVbfi/2pHm822aJ5iI9BMzNXxeYCmZDRD99WYwYqUSdjMmmAphXdvxegXd/M5+X7OrzKBaMbCVdFLUUh6DhweJBjEVv5f2wwjM9XzcnOf+EPbtG9DMBmADjFDc2w/rljwvFw==";
-
-const NO_ZONE_DIGEST: &str = "60229 5 1 b661d8153d8463311a809a7179c92fafbc815801";
-
 #[test]
 fn key_has_its_tag_and_its_digest(rt: HostRuntime) -> Result<(), Fail> {
     let alloc = rt.alloc();
@@ -41,8 +35,10 @@ fn key_has_its_tag_and_its_digest(rt: HostRuntime) -> Result<(), Fail> {
 fn key_without_zone_flag_is_not_covered(rt: HostRuntime) -> Result<(), Fail> {
     let alloc = rt.alloc();
     let name = Name::from_ascii("dskey.example.com.")?;
-    let key = DNSKEY::from_tokens(alloc, NO_ZONE_KEY)?;
-    let ds = DS::from_tokens(alloc, NO_ZONE_DIGEST)?;
+    let zone_key = DNSKEY::from_tokens(alloc, KEY)?;
+    let key = DNSKEY::with_flags(0, zone_key.public_key().try_clone()?);
+    // The digest as Python's `hashlib` gives it.
+    let ds = DS::from_tokens(alloc, "60229 5 1 b661d8153d8463311a809a7179c92fafbc815801")?;
     let digest = key.to_digest(&name, DigestType::SHA1)?;
     assert_eq!(rt; digest.as_slice(), ds.digest());
     assert_eq!(rt; ds.covers(&name, &key), Ok(false));

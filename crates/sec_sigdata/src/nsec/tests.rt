@@ -22,7 +22,13 @@ fn nsec_is_made_and_printed(rt: HostRuntime) -> Result<(), Fail> {
         cover.to_string(alloc)?.as_str(),
         "host.example.com. A MX RRSIG NSEC"
     );
-    assert_eq!(rt; cover.type_bit_maps().count(), 4);
+    let numbers = [1u16, 15, 46, 47];
+    assert!(rt;
+        cover
+            .type_bit_maps()
+            .map(u16::from)
+            .eq(numbers.iter().copied())
+    );
     let mut encoder = BinEncoder::new(alloc);
     cover.emit(&mut encoder)?;
     assert_eq!(rt;

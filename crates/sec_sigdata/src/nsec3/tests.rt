@@ -42,7 +42,7 @@ fn nsec3_is_made_written_read_and_printed(rt: HostRuntime) -> Result<(), Fail> {
     assert_eq!(rt; again.next_hashed_owner_name(), [0xffu8].as_slice());
     let label = Label::from_bytes(b"vs")?;
     assert_eq!(rt; again.next_hashed_owner_name_base32(), Some(&label));
-    assert_eq!(rt; again.type_bit_maps().count(), 1);
+    assert_eq!(rt; again.type_bit_maps().next(), Some(RecordType::A));
     assert!(rt; again.type_set().contains(RecordType::A));
     assert!(rt; !again.is_ancestor_delegation());
     Ok(())

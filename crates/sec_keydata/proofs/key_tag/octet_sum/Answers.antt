@@ -1,4 +1,4 @@
-use Rattle.std.proofs.Common.{◌≡◌, ◌*◌, ◌+◌, get_or, ap, arith}
+use Rattle.std.proofs.Common.{◌≡◌, ◌*◌, get_or, ap, arith}
 use Rattle.std.proofs.lemmas.Bool.Decides.{nat_tests}
 use Rattle.sec_keydata.proofs.TagSums.{weight, sum_more}
 use Rattle.sec_keydata.proofs.key_tag.octet_sum.Goals as goal

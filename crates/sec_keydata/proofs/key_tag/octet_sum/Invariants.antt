@@ -1,4 +1,3 @@
-use Rattle.std.proofs.Common.{take}
 use Rattle.sec_keydata.proofs.TagSums.{HasSum}
 use Rattle.sec_keydata.proofs.key_tag.octet_sum.Given as goal
 

@@ -3,7 +3,7 @@ use Rattle.std.proofs.lemmas.List.{take_at}
 use Rattle.dns_wire.specs.Names.{wire, low}
 use Rattle.sec_keydata.specs.KeyFields.{fields_key}
 use Rattle.sec_keydata.specs.KeyTags.{dnskey_octets}
-use Rattle.sec_keydata.proofs.key_fields.KeyFields.behind.Goals as goal
+use Rattle.sec_keydata.proofs.key_fields.KeyFields.before_key.Goals as goal
 
 -- what stands in front after the two copies
 two_copies : (name head first second rest more : List ℕ) → first ≡ name → second ≡ head → length head ≡ 4
