@@ -58,9 +58,18 @@ fn words_of_keys_are_joined(rt: HostRuntime) -> Result<(), Fail> {
 }
 
 #[test]
+fn single_digit_at_the_end_is_dropped(rt: HostRuntime) -> Result<(), Fail> {
+    let ds = DS::from_tokens(rt.alloc(), "1 2 1 ABC")?;
+    assert_eq!(rt; ds.algorithm(), Algorithm::Unknown(2));
+    assert_eq!(rt; ds.digest_type(), DigestType::SHA1);
+    assert_eq!(rt; ds.digest(), [0xabu8].as_slice());
+    Ok(())
+}
+
+#[test]
 fn algorithms_have_mnemonics(rt: HostRuntime) -> Result<(), Fail> {
     let alloc = rt.alloc();
-    let ds = DS::from_tokens(alloc, "1 RSASHA1 002 abC")?;
+    let ds = DS::from_tokens(alloc, "1 RSASHA1 002 ab")?;
     assert_eq!(rt; ds.key_tag(), 1);
     assert_eq!(rt; ds.algorithm(), Algorithm::RSASHA1);
     assert_eq!(rt; ds.digest_type(), DigestType::SHA256);
