@@ -3,8 +3,8 @@ use Rattle.std.proofs.Common.{◌≡◌, ℕ, zero, suc, ◌+◌, ◌≤◌, ◌
 use Rattle.std.specs.Int.{Width, w16, byte_len, from_be_bytes}
 use Rattle.std.proofs.lemmas.List.{take_more_same, get_or-drop, length-drop}
 use Rattle.dns_wire.specs.Reading.{NumberAt}
-use Rattle.dns_wire.specs.Places.{Labels}
-use Rattle.dns_wire.proofs.PlaceLaws.{labels_forward}
+use Rattle.dns_names.specs.Places.{Labels}
+use Rattle.dns_names.proofs.PlaceLaws.{labels_forward}
 use Rattle.dns_grammar.specs.Fields.{Table}
 use Rattle.dns_grammar.specs.Messages.{Query, ResourceRecord, EachAt, QueryAt, RecordAt}
 use Rattle.dns_grammar.specs.Extents.{SameOctets}

@@ -6,8 +6,8 @@ use Rattle.std.proofs.lemmas.Bool.{le-leb, lt-leb}
 use Rattle.std.proofs.lemmas.Bool.Decides.{leb_tells}
 use Rattle.dns_wire.specs.declared.error.DecodeError.{DecodeError}
 use Rattle.dns_wire.specs.Reading.{◌>>=◌, octets_at, number_at, time_at, counted_at, CountedAt}
-use Rattle.dns_wire.specs.Places.{name_at}
-use Rattle.dns_wire.proofs.PlaceLaws.{name_at_sound, name_at_complete}
+use Rattle.dns_names.specs.Places.{name_at}
+use Rattle.dns_names.proofs.PlaceLaws.{name_at_sound, name_at_complete}
 use Rattle.dns_grammar.specs.Fields.{width, Kind, Number, Time, Fixed, Counted, Strings, Rest, Lowered, Kept, Value, Num, Str, Strs, Named, Field, StringsAt, ValueAt, FieldsAt, strings_at, value_at, no_fault, fields_at}
 use Rattle.dns_wire.proofs.FieldLaws.{is_ok_same, bind_ok, octets_stand, octets_read, number_stands, number_read, time_stands, time_read, counted_stands, counted_read}
 

@@ -5,8 +5,8 @@ use Rattle.std.proofs.lemmas.Bool.{eqb-false, ne_eqb}
 use Rattle.dns_wire.specs.declared.error.DecodeError.{DecodeError}
 use Rattle.dns_wire.specs.declared.error.DecodeError.TheVariants.{TsigNotLast}
 use Rattle.dns_wire.specs.Reading.{number_at, NumberAt}
-use Rattle.dns_wire.specs.Places.{NameAt, name_at}
-use Rattle.dns_wire.proofs.PlaceLaws.{name_at_sound, name_at_complete}
+use Rattle.dns_names.specs.Places.{NameAt, name_at}
+use Rattle.dns_names.proofs.PlaceLaws.{name_at_sound, name_at_complete}
 use Rattle.dns_grammar.specs.Fields.{Table}
 use Rattle.dns_grammar.specs.RecordData.{tsig_type, RDataAt, rdata_at}
 use Rattle.dns_grammar.specs.Messages.{Header, Query, ResourceRecord, RecordHead, HeaderAt, QueryAt, RecordAt, NotTsig, header_at, query_at, head_at, placed, with_data, record_at}

@@ -8,12 +8,12 @@ use Rattle.dns_wire.specs.declared.error.EmitError.{EmitError}
 use Rattle.dns_wire.specs.declared.error.EmitError.TheVariants.{StringTooLong, TimeTooLarge}
 use Rattle.dns_wire.specs.Reading.{OctetsAt, NumberAt, TimeAt, CountedAt}
 use Rattle.dns_wire.specs.Octets.{AreOctets, six_octets}
-use Rattle.dns_wire.specs.Names.{wire}
-use Rattle.dns_wire.specs.NameLaws.{length_lt-wire}
+use Rattle.dns_names.specs.Names.{wire}
+use Rattle.dns_names.specs.NameLaws.{length_lt-wire}
 use Rattle.dns_grammar.specs.Fields.{Size, One, Two, Four, width, limit, Kind, Number, Time, Fixed, Counted, Strings, Rest, Lowered, Kept, Value, Num, Str, Strs, Named, Field, Table, StringsAt, ValueAt, FieldsAt, counted_octets, strings_octets, value_octets, fields_octets}
 use Rattle.dns_grammar.specs.RecordData.{tsig_type, data_at, rdata_at}
 use Rattle.dns_grammar.specs.Laws.{Holds, HoldsAll, rest_is_last, ReadIsReadAgain, WrittenRowIsRead, ReadRowIsReadAgain, WrittenDataIsRead, ReadDataIsReadAgain}
-use Rattle.dns_wire.proofs.PlaceLaws.{name_of_octets}
+use Rattle.dns_names.proofs.PlaceLaws.{name_of_octets}
 use Rattle.dns_grammar.proofs.DataLaws.{row_stands, row_is_read, rdata_stands}
 use Rattle.dns_grammar.proofs.ReadBack.{with_count, ok_octets, chose_octets, joins, written_reads}
 

@@ -8,10 +8,10 @@ use Rattle.dns_wire.specs.declared.error.DecodeError.{DecodeError}
 use Rattle.dns_wire.specs.declared.error.EmitError.{EmitError}
 use Rattle.dns_wire.specs.declared.error.EmitError.TheVariants.{StringTooLong}
 use Rattle.dns_wire.specs.Reading.{◌>>=◌, octets_at, number_at, time_at, counted_at}
-use Rattle.dns_wire.specs.Names.{IsName, wire}
-use Rattle.dns_wire.specs.Places.{name_at}
-use Rattle.dns_wire.proofs.PlaceLaws.{name_at_complete}
-use Rattle.dns_wire.proofs.Written.{written_name}
+use Rattle.dns_names.specs.Names.{IsName, wire}
+use Rattle.dns_names.specs.Places.{name_at}
+use Rattle.dns_names.proofs.PlaceLaws.{name_at_complete}
+use Rattle.dns_names.proofs.Written.{written_name}
 use Rattle.dns_grammar.specs.Fields.{Size, One, Two, Four, width, limit, Kind, Number, Time, Fixed, Counted, Strings, Rest, Lowered, Kept, Value, Num, Str, Strs, Named, Field, value_at, fields_at, joined, counted_octets, strings_octets, strings_at, value_octets, fields_octets}
 use Rattle.dns_grammar.specs.RecordData.{row_at}
 use Rattle.dns_wire.specs.Octets.{six_octets}

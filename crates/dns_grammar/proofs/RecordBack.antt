@@ -6,8 +6,8 @@ use Rattle.dns_wire.specs.declared.error.DecodeError.{DecodeError}
 use Rattle.dns_wire.specs.declared.error.EmitError.{EmitError}
 use Rattle.dns_wire.specs.declared.error.EmitError.TheVariants.{DataTooLong}
 use Rattle.dns_wire.specs.Octets.{two_octets, four_octets}
-use Rattle.dns_wire.specs.Names.{IsName, wire}
-use Rattle.dns_wire.specs.Places.{name_at}
+use Rattle.dns_names.specs.Names.{IsName, wire}
+use Rattle.dns_names.specs.Places.{name_at}
 use Rattle.dns_wire.specs.Reading.{number_at}
 use Rattle.dns_grammar.specs.Fields.{Size, Two, Four, width, limit, Value, Table}
 use Rattle.dns_grammar.specs.RecordData.{rdata_at, plain, fitting}

@@ -2,7 +2,7 @@
 use Rattle.std.proofs.Common.{◌≡◌, inl, inr, ℕ, ◌+◌, ◌-◌, ◌≤◌, ◌<◌, min, Bool, true, false, cond, eqb, List, [], ◌∷◌, ◌++◌, length, drop, get_or, slice_range, Option, Some, None, refl, sym, ap, subst, ◌∙◌, arith, length-append}
 use Rattle.std.specs.Int.{w16, byte_len}
 use Rattle.std.proofs.lemmas.List.{length-take, length-drop, get_or_append_left, get_or-take, get_or-drop}
-use Rattle.dns_wire.proofs.PlaceLaws.{labels_forward, labels_next}
+use Rattle.dns_names.proofs.PlaceLaws.{labels_forward, labels_next}
 use Rattle.dns_grammar.specs.Fields.{Table}
 use Rattle.dns_grammar.specs.RecordData.{tsig_type}
 use Rattle.dns_grammar.specs.Messages.{ResourceRecord, Message, with_last, EachAt, QueryAt, RecordAt, MessageAt, TsigData, tsig_data, Signature, signature_from, signature_of, HasTsig}

@@ -1,7 +1,7 @@
 -- What is true of the definitions. Each of these statements is proved by a function of the module `laws`.
 use Rattle.std.specs.Prelude.{◌≡◌, ◌≢◌, ◌↔◌, ◌⊎◌, Bool, true, false, ℕ, ◌+◌, ◌≤◌, ◌<◌, ◌^◌, List, [], ◌∷◌, ◌++◌, ◌&&◌, not, length, Option, None, Some, Ok, IsTrue}
 use Rattle.dns_wire.specs.Octets.{AreOctets}
-use Rattle.dns_wire.specs.Names.{IsName, low}
+use Rattle.dns_names.specs.Names.{IsName, low}
 use Rattle.dns_wire.specs.Reading.{◌>>=◌}
 use Rattle.dns_grammar.specs.Fields.{limit, Kind, Number, Time, Fixed, Counted, Strings, Rest, Lowered, Kept, Value, Num, Str, Strs, Named, Field, Table, fields_octets}
 use Rattle.dns_grammar.specs.RecordData.{tsig_type, RowAt, RDataAt, row_at, data_at, rdata_at, plain, canon, Agree}

@@ -7,8 +7,8 @@ use Rattle.dns_wire.specs.declared.error.DecodeError.{DecodeError}
 use Rattle.dns_wire.specs.declared.error.DecodeError.TheVariants.{MessageTooLong, TsigNotLast}
 use Rattle.dns_wire.specs.declared.error.EmitError.{EmitError}
 use Rattle.dns_wire.specs.Octets.{two_octets, four_octets}
-use Rattle.dns_wire.specs.Names.{wire}
-use Rattle.dns_wire.specs.Places.{NameAt, name_at}
+use Rattle.dns_names.specs.Names.{wire}
+use Rattle.dns_names.specs.Places.{NameAt, name_at}
 use Rattle.dns_wire.specs.Reading.{◌>>=◌, number_at, each_at, NumberAt}
 use Rattle.dns_grammar.specs.Fields.{Value, Num, Str, Named, Table}
 use Rattle.dns_grammar.specs.RecordData.{tsig_type, RDataAt, rdata_at, plain, fitting}

@@ -3,7 +3,7 @@ use Rattle.std.specs.Prelude.{List, [], ◌∷◌, Option, Some, None, nat_eq, n
 use Rattle.dns_wire.specs.declared.error.DecodeError.{DecodeError}
 use Rattle.dns_wire.specs.declared.error.DecodeError.TheVariants.{BitmapMalformed, UnknownNsec3HashAlgorithm, UnrecognizedNsec3Flags}
 use Rattle.dns_wire.specs.declared.error.EmitError.TheVariants.{SaltTooLong, HashTooLong}
-use Rattle.dns_wire.specs.TypeSets.{is_bitmap}
+use Rattle.dns_types.specs.TypeSets.{is_bitmap}
 use Rattle.dns_grammar.specs.Fields.{One, Two, Four, Number, Counted, Rest, Lowered, Kept, Value, Num, Str, Field, Table, any}
 use Rattle.dns_grammar.specs.KeyRows.{key_table}
 

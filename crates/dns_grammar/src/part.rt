@@ -3,7 +3,8 @@ ghost use Rattle.std.specs.Prelude.{◌≡◌, List};
 ghost use Rattle.dns_wire.specs.Writing.{Writes};
 ghost use Rattle.dns_grammar.specs.Parts.{part_octets, parts_octets, Grows};
 
-use dns_wire::{BinEncoder, EmitError, Name, time_octets};
+use dns_names::Name;
+use dns_wire::{BinEncoder, EmitError, time_octets};
 
 /// A field of record data that is to be written (RFC 1035 3.3).
 #[derive(Clone, Copy, Debug)]

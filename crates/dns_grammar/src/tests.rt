@@ -1,6 +1,7 @@
 //! Fields written and ends of data found, with octets spelled out from RFC 1035 4.1 and RFC 8945 4.2.
 use crate::{Part, data_end, emit_parts, expect_end};
-use dns_wire::{BinDecoder, BinEncoder, DecodeError, EmitError, Name};
+use dns_names::Name;
+use dns_wire::{BinDecoder, BinEncoder, DecodeError, EmitError};
 use std::test::Fail;
 
 #[test]

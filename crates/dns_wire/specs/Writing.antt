@@ -1,10 +1,8 @@
 -- What a contract sees of an encoder, and what its calls write.
 use Rattle.std.specs.Prelude.{Bool, ◌≡◌, ◌⊎◌, ℕ, List, ◌+◌, ◌++◌, length, take, drop, Result, Ok, Err}
 use Rattle.dns_wire.specs.declared.encoder.NameEncoding.{NameEncoding}
-use Rattle.dns_wire.specs.declared.encoder.NameEncoding.TheVariants.{Uncompressed, UncompressedLowercase}
 use Rattle.dns_wire.specs.declared.error.EmitError.{EmitError}
 use Rattle.dns_wire.specs.declared.error.EmitError.TheVariants.{OutOfMemory}
-use Rattle.dns_wire.specs.Names.{wire, low}
 
 -- the octets so far, how names are written, and whether record data are written in canonical form
 pub record Output : Type 0 where
@@ -23,11 +21,6 @@ abbrev pub Writes : Result (Unit {0}) EmitError → Output → Output → Result
 Writes (Ok _) old new (Ok octets) = new ≡ record old { octets = old.octets ++ octets }
 Writes (Ok _) old new (Err e) = ⊥
 Writes (Err e) old new written = (new ≡ old) × ((e ≡ OutOfMemory) ⊎ (written ≡ Err e))
-
--- a name as the encoder writes it
-abbrev pub name_octets : NameEncoding → List (List ℕ) → List ℕ
-name_octets Uncompressed n = wire n
-name_octets UncompressedLowercase n = wire (low n)
 
 -- the octets from a place on, replaced by as many others
 abbrev pub paste : List ℕ → ℕ → List ℕ → List ℕ

@@ -65,6 +65,3 @@ pub trait RecordDataDecodable<'r>: Sized {
         ensures read { is_read length (octets decoder.old) (place decoder.old) result (place decoder.new) }
         ensures octets { octets decoder.new ≡ octets decoder.old };
 }
-
-#[cfg(test)]
-mod tests;

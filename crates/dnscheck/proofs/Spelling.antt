@@ -12,7 +12,7 @@ use Rattle.std.proofs.lemmas.Bool.{cases_Bool}
 use Rattle.std.proofs.lemmas.Bool.Decides.{nat_tests}
 use Rattle.dns_wire.specs.declared.error.NameError.{NameError}
 use Rattle.dns_wire.specs.Reading.{◌>>=◌}
-use Rattle.dns_wire.specs.NameText.{dot, backslash, octet_of_digits, escaped, first_octet, with_octet, with_label, labels_of, name_of}
+use Rattle.dns_names.specs.NameText.{dot, backslash, octet_of_digits, escaped, first_octet, with_octet, with_label, labels_of, name_of}
 
 abbrev is_ascii : ℕ → Bool
 is_ascii c = nat_lt c 128

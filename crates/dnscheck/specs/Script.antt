@@ -3,7 +3,7 @@ use Rattle.std.specs.Prelude.{◌≡◌, ℕ, ◌^◌, List, [], ◌∷◌, code
 use Rattle.std.specs.List.{list_all}
 use Rattle.std.specs.Result.{result_ok}
 use Rattle.std.specs.Str.{bytes_eq}
-use Rattle.dns_wire.specs.NameText.{name_of}
+use Rattle.dns_names.specs.NameText.{name_of}
 use Rattle.dns_io.specs.Words.{◌>>=◌, is_text, is_skipped, lines, without_return, words, two_words, four_words, number_below, octets_of}
 use Rattle.sec_digest.specs.declared.hmac.HmacHash.{HmacHash}
 use Rattle.sec_digest.specs.declared.hmac.HmacHash.TheVariants.{Sha256}

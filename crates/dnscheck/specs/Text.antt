@@ -2,8 +2,8 @@
 use Rattle.std.specs.Prelude.{ℕ, List, ◌++◌, codes, if◌then◌else◌, ◌==◌}
 use Rattle.std.specs.Fmt.{decimal}
 use Rattle.hex.specs.Hex.{encode_lower}
-use Rattle.dns_wire.specs.NameText.{name_text}
-use Rattle.dns_wire.specs.Codes.{type_text, class_text}
+use Rattle.dns_names.specs.NameText.{name_text}
+use Rattle.dns_types.specs.Codes.{type_text, class_text}
 use Rattle.sec_tsig.specs.declared.first_set.FirstSet.{FirstSet}
 use Rattle.sec_tsig.specs.declared.verifier.FirstError.{FirstError}
 use Rattle.sec_tsig.specs.declared.verifier.FirstError.TheVariants.{Decode, NotBuilt, Invalid, OutOfMemory}

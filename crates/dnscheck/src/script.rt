@@ -9,7 +9,8 @@ use dns_io::{
     four_words, is_skipped, is_text, number_below, octets_of, split_line, split_word, two_words,
     without_return,
 };
-use dns_wire::{Name, Octets};
+use dns_names::Name;
+use dns_wire::Octets;
 use sec_tsig::{FirstSigner, FirstVerifier};
 use std::alloc::Global;
 use std::marker::Model;

@@ -5,7 +5,8 @@ ghost use Rattle.std.specs.String.{string_bytes};
 ghost use Rattle.sec_digest.specs.Base32.{base32, digit_of, hash_label};
 ghost use Rattle.sec_digest.specs.Base32 as specs;
 
-use dns_wire::{Label, OutOfMemory};
+use dns_names::Label;
+use dns_wire::OutOfMemory;
 use std::alloc::Global;
 use std::fmt;
 

@@ -2,13 +2,14 @@
 
 ghost use Rattle.std.specs.Prelude.{◌≡◌, length, MatchResult, ◌≢◌};
 ghost use Rattle.sha1.specs.Sha1.{sha1};
-ghost use Rattle.dns_wire.specs.Names.{wire, low};
+ghost use Rattle.dns_names.specs.Names.{wire, low};
 ghost use Rattle.dns_wire.specs.declared.error.DecodeError.TheVariants.{UnknownNsec3HashAlgorithm};
 ghost use Rattle.sec_digest.specs.Digests.{digest_octets, iterated_hash};
 
 use crate::digest::Digest;
 use crate::hash::iterated;
-use dns_wire::{DecodeError, Name};
+use dns_names::Name;
+use dns_wire::DecodeError;
 
 /// A hash algorithm of NSEC3 records, by its number (RFC 5155, section 11).
 #[derive(Clone, Copy, Debug, Default, PartialEq, Eq, Hash)]

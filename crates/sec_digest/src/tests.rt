@@ -9,7 +9,8 @@ ghost use Rattle.sec_digest.specs.Mac.{mac_octets};
 use crate::{
     Digest, DigestType, Hmac, HmacHash, Mac, Nsec3HashAlgorithm, base32_dnssec, base32_label,
 };
-use dns_wire::{DecodeError, Label, Name};
+use dns_names::{Label, Name};
+use dns_wire::DecodeError;
 use std::alloc::{AllocError, Global};
 use std::test::Fail;
 

@@ -3,7 +3,7 @@ use Rattle.std.specs.Prelude.{ℕ, ◌&&◌, Bool, List, ◌++◌, Result, Ok}
 use Rattle.std.specs.Option.{ok_or}
 use Rattle.std.specs.Result.{result_ok}
 use Rattle.std.specs.Str.{bytes_eq}
-use Rattle.dns_wire.specs.Names.{wire, low}
+use Rattle.dns_names.specs.Names.{wire, low}
 use Rattle.dns_wire.specs.Reading.{◌>>=◌}
 use Rattle.sec_codes.specs.KeyForms.{Key}
 use Rattle.sec_digest.specs.declared.digest_type.DigestType.{DigestType}

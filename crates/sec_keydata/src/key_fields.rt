@@ -1,6 +1,6 @@
 //! The fields of a DNSKEY, its tag and its digest, without a copy of the key.
 ghost use Rattle.std.specs.Prelude.{◌≡◌, ◌≤◌, ◌++◌, length, take, nat_lt};
-ghost use Rattle.dns_wire.specs.Names.{wire, low};
+ghost use Rattle.dns_names.specs.Names.{wire, low};
 ghost use Rattle.dns_wire.specs.Reading.{Gives};
 ghost use Rattle.sec_digest.specs.Digests.{digest_octets};
 ghost use Rattle.sec_keydata.specs.DnsKeys.{dnskey_data};
@@ -12,7 +12,7 @@ use crate::dnskey::DNSKEY;
 use crate::dnskey_flags::flags_of;
 use crate::key_data_error::KeyDataError;
 use crate::key_tag::{fold, octet_sum};
-use dns_wire::Name;
+use dns_names::Name;
 use sec_codes::{Algorithm, PublicKey};
 use sec_digest::{Digest, DigestType};
 

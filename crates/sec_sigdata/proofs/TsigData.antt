@@ -1,7 +1,7 @@
 -- The data of TSIG records, written and told.
 use Rattle.std.proofs.Common.{length-append, ◌+◌, ◌≡◌, ℕ, ◌^◌, ◌<◌, false, List, [], ◌∷◌, ◌++◌, length, Some, Ok, refl, sym, ap, ◌∙◌, arith, lt-ltb}
 use Rattle.dns_wire.specs.Octets.{two_octets, six_octets}
-use Rattle.dns_wire.specs.Names.{wire, IsName}
+use Rattle.dns_names.specs.Names.{wire, IsName}
 use Rattle.dns_grammar.specs.Fields.{Value, fields_octets}
 use Rattle.dns_grammar.specs.Laws.{AreReadBack}
 use Rattle.dns_grammar.specs.Messages as grammar

@@ -3,7 +3,7 @@ use Rattle.std.proofs.Common.{Some, None, ◌≡◌, ℕ, Bool, true, false, Lis
 use Rattle.std.specs.Str.{bytes_eq}
 use Rattle.std.proofs.Math.Seq.{take-append_seam, drop-append_seam}
 use Rattle.std.proofs.lemmas.Slice.Eq.{bytes_eq-Decides}
-use Rattle.dns_wire.specs.Names.{wire}
+use Rattle.dns_names.specs.Names.{wire}
 use Rattle.sec_digest.specs.declared.hmac.HmacHash.{HmacHash}
 use Rattle.sec_digest.specs.declared.hmac.HmacHash.TheVariants.{Sha256, Sha384, Sha512}
 use Rattle.sec_sigdata.specs.declared.tsig_algorithm.TsigAlgorithm.{TsigAlgorithm}

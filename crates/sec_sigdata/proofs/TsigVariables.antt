@@ -2,7 +2,7 @@
 use Rattle.std.proofs.Common.{◌≡◌, ℕ, ◌^◌, Bool, true, false, List, length, refl, append_assoc}
 use Rattle.std.specs.Prelude.{nat_lt}
 use Rattle.std.proofs.lemmas.List.{append-nil}
-use Rattle.dns_wire.specs.Names.{low}
+use Rattle.dns_names.specs.Names.{low}
 use Rattle.dns_grammar.specs.Fields.{fields_octets}
 use Rattle.dns_grammar.specs.Messages.{TsigData}
 use Rattle.sec_sigdata.specs.TsigRecords.{error_variables, key_variables, tsig_timers, tsig_variables, variables_row, variables_values, written_variables}

@@ -4,9 +4,9 @@ use Rattle.std.proofs.lemmas.Bool.{lt-ltb}
 use Rattle.std.specs.Int.{w8, w16, to_be_bytes}
 use Rattle.std.specs.Prelude.{IsTrue}
 use Rattle.dns_wire.specs.declared.error.EmitError.{EmitError}
-use Rattle.dns_wire.specs.Names.{wire, IsName}
-use Rattle.dns_wire.specs.NameLaws.{length_lt-wire}
-use Rattle.dns_wire.specs.TypeSets.{is_bitmap}
+use Rattle.dns_names.specs.Names.{wire, IsName}
+use Rattle.dns_names.specs.NameLaws.{length_lt-wire}
+use Rattle.dns_types.specs.TypeSets.{is_bitmap}
 use Rattle.sec_digest.specs.declared.nsec3_hash.Nsec3HashAlgorithm.{Nsec3HashAlgorithm}
 use Rattle.sec_digest.specs.declared.nsec3_hash.Nsec3HashAlgorithm.TheVariants.{SHA1}
 use Rattle.dns_grammar.specs.Fields.{Field, Value, Num, Str, One, Rest, any, value_octets, fields_octets, joined}

@@ -1,6 +1,6 @@
 -- The data of NSEC records (RFC 4034 4).
 use Rattle.std.specs.Prelude.{ℕ, List, [], ◌∷◌, ◌++◌}
-use Rattle.dns_wire.specs.NameText.{name_text}
+use Rattle.dns_names.specs.NameText.{name_text}
 use Rattle.dns_grammar.specs.Fields.{Value, Str, Named}
 use Rattle.sec_sigdata.specs.declared.nsec.NSEC.{NSEC}
 use Rattle.sec_sigdata.specs.TypeLists.{types_text}

@@ -4,9 +4,9 @@ use Rattle.std.specs.Fmt.{decimal}
 use Rattle.base64.specs.Engines.{standard}
 use Rattle.base64.specs.GeneralPurpose.{encode_of}
 use Rattle.dns_wire.specs.declared.error.DecodeError.{DecodeError}
-use Rattle.dns_wire.specs.Names.{IsName}
-use Rattle.dns_wire.specs.NameText.{name_text}
-use Rattle.dns_wire.specs.Codes.{type_text}
+use Rattle.dns_names.specs.Names.{IsName}
+use Rattle.dns_names.specs.NameText.{name_text}
+use Rattle.dns_types.specs.Codes.{type_text}
 use Rattle.dns_wire.specs.Reading.{ReadsUnless}
 use Rattle.dns_grammar.specs.RecordData.{data_at}
 use Rattle.dns_grammar.specs.SignatureRows.{sig_row}

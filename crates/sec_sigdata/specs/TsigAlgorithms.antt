@@ -2,8 +2,8 @@
 use Rattle.std.specs.Prelude.{Bool, ℕ, List, [], ◌∷◌, length, codes, Option, Some, None, is_some, Result, Ok, Err, if◌then◌else◌}
 use Rattle.std.specs.Str.{bytes_eq}
 use Rattle.dns_wire.specs.declared.error.DecodeError.{DecodeError}
-use Rattle.dns_wire.specs.Names.{wire}
-use Rattle.dns_wire.specs.Places.{name_at}
+use Rattle.dns_names.specs.Names.{wire}
+use Rattle.dns_names.specs.Places.{name_at}
 use Rattle.dns_wire.specs.Reading.{◌>>=◌}
 use Rattle.sec_digest.specs.declared.hmac.HmacHash.{HmacHash}
 use Rattle.sec_digest.specs.declared.hmac.HmacHash.TheVariants as hashes

@@ -6,8 +6,8 @@ use Rattle.dns_wire.specs.declared.error.DecodeError.{DecodeError}
 use Rattle.dns_wire.specs.declared.error.EmitError.{EmitError}
 use Rattle.dns_wire.specs.declared.error.EmitError.TheVariants.{TimeTooLarge, OtherTooLong}
 use Rattle.dns_wire.specs.Octets.{two_octets, four_octets, six_octets}
-use Rattle.dns_wire.specs.Names.{wire, low}
-use Rattle.dns_wire.specs.NameText.{bare_name_text}
+use Rattle.dns_names.specs.Names.{wire, low}
+use Rattle.dns_names.specs.NameText.{bare_name_text}
 use Rattle.dns_wire.specs.Reading.{ReadsUnless}
 use Rattle.dns_grammar.specs.Fields.{Two, Four, Number, Time, Counted, Kept, Value, Num, Str, Named, Field, any}
 use Rattle.dns_grammar.specs.RecordData.{data_at}

@@ -1,8 +1,8 @@
 -- What the type bitmaps of NSEC and NSEC3 records say (RFC 4034 4.1.2, 4.2; RFC 6840 4.1).
 use Rattle.std.specs.Prelude.{ℕ, Bool, ◌&&◌, ◌||◌, not, List, ◌++◌, codes}
 use Rattle.std.specs.List.{flat_map}
-use Rattle.dns_wire.specs.Codes.{type_text}
-use Rattle.dns_wire.specs.TypeSets.{has_type, types}
+use Rattle.dns_types.specs.Codes.{type_text}
+use Rattle.dns_types.specs.TypeSets.{has_type, types}
 
 -- ---- types by their numbers (IANA, Resource Record TYPEs)
 

@@ -8,7 +8,8 @@ ghost use Rattle.std.proofs.Common.{rules};
 ghost use Rattle.std.specs.Hash as fed;
 ghost use Rattle.sec_digest.specs.Base32.{hash_label};
 
-use dns_wire::{Label, Octets, OutOfMemory};
+use dns_names::Label;
+use dns_wire::{Octets, OutOfMemory};
 use sec_digest::base32_label;
 use std::hash::{Hash, Hasher};
 use std::marker::Model;

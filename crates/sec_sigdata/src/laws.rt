@@ -1,8 +1,8 @@
 //! Laws of the definitions. Nothing calls these functions.
 ghost use Rattle.std.specs.Prelude.{◌≡◌, ◌<◌, ◌^◌, Bool, IsTrue, ℕ, List, length, Ok};
 ghost use Rattle.std.specs.List.{AllByRecursion};
-ghost use Rattle.dns_wire.specs.Names.{IsName};
-ghost use Rattle.dns_wire.specs.TypeSets.{is_bitmap};
+ghost use Rattle.dns_names.specs.Names.{IsName};
+ghost use Rattle.dns_types.specs.TypeSets.{is_bitmap};
 ghost use Rattle.dns_grammar.specs.Fields.{fields_octets, joined};
 ghost use Rattle.dns_grammar.specs.SignatureRows.{sig_row, nsec_row, nsec3_row, nsec3param_row};
 ghost use Rattle.dns_grammar.specs.Laws.{AreReadBack};

@@ -1,7 +1,7 @@
 //! NSEC records: which name is next in a zone, and which types there are at this one (RFC 4034 4).
 ghost use Rattle.std.specs.Prelude.{◌≡◌, ◌++◌, ◌∷◌, [], Some, IfOk};
 ghost use Rattle.dns_wire.specs.Reading.{ReadsUnless};
-ghost use Rattle.dns_wire.specs.TypeSets.{form_of, is_one_of, types};
+ghost use Rattle.dns_types.specs.TypeSets.{form_of, is_one_of, types};
 ghost use Rattle.dns_grammar.specs.Fields.{fields_octets};
 ghost use Rattle.dns_grammar.specs.RecordData.{data_at};
 ghost use Rattle.dns_grammar.specs.SignatureRows.{nsec_row};
@@ -10,9 +10,10 @@ ghost use Rattle.sec_sigdata.specs.Nsec.{nsec_data, nsec_values, nsec_text};
 
 use crate::type_list::{TypesText, is_ancestor_delegation};
 use dns_grammar::{Part, data_end, emit_parts};
+use dns_names::Name;
+use dns_types::{RecordType, RecordTypeIter, RecordTypeSet};
 use dns_wire::{
-    BinDecoder, BinEncodable, BinEncoder, DecodeError, EmitError, Name, OutOfMemory,
-    RecordDataDecodable, RecordType, RecordTypeIter, RecordTypeSet,
+    BinDecoder, BinEncodable, BinEncoder, DecodeError, EmitError, OutOfMemory, RecordDataDecodable,
 };
 use std::alloc::Global;
 use std::fmt;

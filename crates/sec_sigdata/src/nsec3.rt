@@ -2,7 +2,7 @@
 ghost use Rattle.std.specs.Prelude.{◌≡◌, Some, IfOk};
 ghost use Rattle.std.specs.Option.{option_map};
 ghost use Rattle.dns_wire.specs.Reading.{ReadsUnless};
-ghost use Rattle.dns_wire.specs.TypeSets.{form_of, is_one_of, types};
+ghost use Rattle.dns_types.specs.TypeSets.{form_of, is_one_of, types};
 ghost use Rattle.dns_grammar.specs.Fields.{fields_octets};
 ghost use Rattle.dns_grammar.specs.RecordData.{data_at};
 ghost use Rattle.dns_grammar.specs.SignatureRows.{nsec3_row};
@@ -15,9 +15,11 @@ use crate::hash_parameters::HashParameters;
 use crate::hashed_name::HashedName;
 use crate::type_list::{TypesText, is_ancestor_delegation};
 use dns_grammar::{Part, data_end, emit_parts};
+use dns_names::Label;
+use dns_types::{RecordType, RecordTypeIter, RecordTypeSet};
 use dns_wire::{
-    BinDecoder, BinEncodable, BinEncoder, DecodeError, EmitError, Label, Octets, OutOfMemory,
-    RecordDataDecodable, RecordType, RecordTypeIter, RecordTypeSet,
+    BinDecoder, BinEncodable, BinEncoder, DecodeError, EmitError, Octets, OutOfMemory,
+    RecordDataDecodable,
 };
 use sec_digest::{Base32Text, Nsec3HashAlgorithm};
 use std::alloc::Global;

@@ -6,9 +6,10 @@ ghost use Rattle.sec_sigdata.specs.Signatures.{sig_data, sig_values, sig_text, s
 
 use crate::sig_input::{KindText, SigInput, TimesText};
 use dns_grammar::{Part, data_end, emit_parts};
+use dns_names::Name;
 use dns_text::Base64Text;
 use dns_wire::{
-    BinDecoder, BinEncodable, BinEncoder, DecodeError, EmitError, Name, Octets, OutOfMemory,
+    BinDecoder, BinEncodable, BinEncoder, DecodeError, EmitError, Octets, OutOfMemory,
     RecordDataDecodable, SerialNumber,
 };
 use sec_codes::Algorithm;

@@ -4,7 +4,9 @@ ghost use Rattle.dns_grammar.specs.Fields.{fields_octets};
 ghost use Rattle.sec_sigdata.specs.Signatures.{input_row, input_values, kind_text, times_text};
 
 use dns_grammar::{Part, emit_parts};
-use dns_wire::{BinEncodable, BinEncoder, EmitError, Name, RecordType, SerialNumber};
+use dns_names::Name;
+use dns_types::RecordType;
+use dns_wire::{BinEncodable, BinEncoder, EmitError, SerialNumber};
 use sec_codes::Algorithm;
 use std::fmt;
 

@@ -10,10 +10,11 @@ use crate::tsig_algorithm::TsigAlgorithm;
 use crate::tsig_error::{TsigError, optional_number};
 use crate::tsig_view::TsigView;
 use dns_grammar::{Part, data_end, emit_parts};
+use dns_names::Name;
 use dns_text::LowerHex;
+use dns_types::DNSClass;
 use dns_wire::{
-    BinDecoder, BinEncodable, BinEncoder, DNSClass, DecodeError, EmitError, Name, OutOfMemory,
-    RecordDataDecodable,
+    BinDecoder, BinEncodable, BinEncoder, DecodeError, EmitError, OutOfMemory, RecordDataDecodable,
 };
 use std::alloc::Global;
 use std::fmt;

@@ -1,15 +1,13 @@
 //! The algorithms of TSIG records (RFC 8945 6).
 ghost use Rattle.std.specs.Prelude.{◌≡◌, ◌<◌, ◌≤◌, ◌↔◌, [], ◌∷◌, length, IsOk, Some, Ok};
-ghost use Rattle.dns_wire.specs.NameText.{bare_name_text};
+ghost use Rattle.dns_names.specs.NameText.{bare_name_text};
 ghost use Rattle.dns_wire.specs.Reading.{Reads, GivesUnless};
-ghost use Rattle.dns_wire.specs.Writing.{name_octets};
+ghost use Rattle.dns_names.specs.NameWriting.{name_octets};
 ghost use Rattle.sec_sigdata.specs.TsigAlgorithms.{algorithm_name, algorithm_among, algorithm_of, algorithm_at, hash_of, supported, algorithm_with, mac_of, checked_mac};
 
 use crate::error::DnsSecError;
-use dns_wire::{
-    BareName, BinDecodable, BinDecoder, BinEncodable, BinEncoder, DecodeError, EmitError, Label,
-    Name,
-};
+use dns_names::{BareName, Label, Name};
+use dns_wire::{BinDecodable, BinDecoder, BinEncodable, BinEncoder, DecodeError, EmitError};
 use sec_digest::{Hmac, HmacHash};
 use std::alloc::Global;
 use std::fmt;

@@ -11,7 +11,8 @@ ghost use Rattle.sec_sigdata.specs.TsigRecords.{view_data, view_fields, view_val
 use crate::tsig_algorithm::TsigAlgorithm;
 use crate::tsig_error::{TsigError, optional_error, optional_number};
 use dns_grammar::{Part, emit_parts, expect_end};
-use dns_wire::{BinDecoder, BinEncoder, DecodeError, EmitError, Name};
+use dns_names::Name;
+use dns_wire::{BinDecoder, BinEncoder, DecodeError, EmitError};
 
 /// The data of a TSIG record (RFC 8945 4.2), whose octets are borrowed.
 #[derive(Clone, Copy, Debug)]

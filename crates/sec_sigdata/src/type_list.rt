@@ -2,7 +2,7 @@
 ghost use Rattle.std.specs.Prelude.{◌≡◌, Some};
 ghost use Rattle.sec_sigdata.specs.TypeLists as specs;
 
-use dns_wire::{RecordType, RecordTypeSet};
+use dns_types::{RecordType, RecordTypeSet};
 use std::fmt;
 
 /// Whether the types are those of a delegation as the zone above sees it, NS without SOA, or of a subtree under another name, DNAME

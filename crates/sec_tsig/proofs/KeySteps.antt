@@ -8,8 +8,8 @@ use Rattle.std.specs.Ordering.{is_eq, ordering_then}
 use Rattle.std.specs.Cmp.{IsEquivalence, on_equiv, and_equiv, unsigned_ties}
 use Rattle.std.proofs.lemmas.Cmp.{lists_equiv, nat_eq_equiv}
 use Rattle.std.proofs.lemmas.List.Folds.{list_any-append}
-use Rattle.dns_wire.specs.Names.{low, same}
-use Rattle.dns_wire.specs.NameLaws.{same_ties}
+use Rattle.dns_names.specs.Names.{low, same}
+use Rattle.dns_names.specs.NameLaws.{same_ties}
 use Rattle.sec_tsig.specs.declared.first_set.FirstSet.{FirstSet}
 use Rattle.sec_tsig.specs.declared.first_set.SetKey.{SetKey}
 use Rattle.sec_tsig.specs.RecordSets.{Knows, is_listed, key_cmp, key_of, same_set, with_new, with_set}

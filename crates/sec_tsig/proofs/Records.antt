@@ -1,7 +1,7 @@
 -- The octets of a TSIG record, and octets written piece by piece.
 use Rattle.std.proofs.Common.{◌≡◌, ℕ, ◌<◌, ◌^◌, false, List, ◌++◌, length, Ok, ap, ◌∙◌, append_assoc}
 use Rattle.dns_wire.specs.Octets.{two_octets, four_octets}
-use Rattle.dns_wire.specs.Names.{wire}
+use Rattle.dns_names.specs.Names.{wire}
 use Rattle.dns_wire.specs.Writing.{Output}
 use Rattle.dns_grammar.specs.RecordData.{tsig_type}
 use Rattle.dns_grammar.specs.Messages.{TsigData}

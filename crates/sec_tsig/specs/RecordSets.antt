@@ -5,7 +5,7 @@ use Rattle.std.specs.Ordering.{nat_cmp, ordering_then}
 use Rattle.std.specs.List.{filter, list_any}
 use Rattle.std.specs.BTreeSet.{BTreeSet, contains}
 use Rattle.dns_wire.specs.declared.error.DecodeError.{DecodeError}
-use Rattle.dns_wire.specs.Names.{name_cmp, same}
+use Rattle.dns_names.specs.Names.{name_cmp, same}
 use Rattle.dns_wire.specs.Reading.{◌>>=◌}
 use Rattle.dns_grammar.specs.RecordData.{tsig_type}
 use Rattle.dns_grammar.specs.Messages.{Message, ResourceRecord, additionals}

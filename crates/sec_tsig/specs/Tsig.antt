@@ -2,7 +2,7 @@
 use Rattle.std.specs.Prelude.{ℕ, ◌+◌, ◌-◌, List, [], ◌++◌, length, slice_range, Bool, false, Option, Some, None, Result, Ok, Err, ◌==◌, if◌then◌else◌}
 use Rattle.dns_wire.specs.declared.error.EmitError.{EmitError}
 use Rattle.dns_wire.specs.Octets.{two_octets, four_octets}
-use Rattle.dns_wire.specs.Names.{wire}
+use Rattle.dns_names.specs.Names.{wire}
 use Rattle.dns_grammar.specs.Fields.{fields_octets}
 use Rattle.dns_grammar.specs.RecordData.{tsig_type}
 use Rattle.dns_grammar.specs.Tables.{tsig_row}

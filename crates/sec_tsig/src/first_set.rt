@@ -1,6 +1,7 @@
 //! The record sets of a message, each named by what its records share.
 
-use dns_wire::{DNSClass, Name, RecordType};
+use dns_names::Name;
+use dns_types::{DNSClass, RecordType};
 
 /// A set of records: those of one section with the same owner, the same class and the same type (RFC 2181 5).
 #[derive(Clone, Copy, Debug, PartialEq, Eq)]

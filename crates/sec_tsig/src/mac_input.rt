@@ -6,7 +6,8 @@ ghost use Rattle.sec_sigdata.specs.TsigRecords.{view_data, view_fields, TsigFits
 ghost use Rattle.sec_tsig.specs.Tsig.{prior_mac, message_without_tsig, mac_input, signing_input};
 
 use crate::signature_view::SignatureView;
-use dns_wire::{Name, time_octets};
+use dns_names::Name;
+use dns_wire::time_octets;
 use sec_digest::Hmac;
 use sec_sigdata::TsigView;
 

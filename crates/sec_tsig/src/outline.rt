@@ -2,6 +2,7 @@
 ghost use Rattle.std.specs.Prelude.{◌≡◌, ◌≤◌, false, length, IfOk, OnOk};
 ghost use Rattle.std.specs.Option.{ForSome};
 ghost use Rattle.dns_wire.specs.Reading.{octets, place, Gives, Reads};
+ghost use Rattle.dns_names.specs.Jumps.{AreJumps};
 ghost use Rattle.dns_grammar.specs.Tables.{short_table};
 ghost use Rattle.dns_grammar.specs.Messages.{all_pass, end_of, last_at, last_outline, outline_at, outline_behind, queries_at, record_at, records_at, type_passes};
 ghost use Rattle.sec_tsig.specs.Views.{header_view, is_one_of, last_view, outline_view, type_at, IsPlaced, Reaches, Yields};
@@ -10,7 +11,8 @@ ghost use Rattle.sec_sigdata.specs.TsigRecords.{view_fields, TsigFits, TsigIsNam
 use crate::parts::{Header, RecordHead, skip_query};
 use crate::rdata::skip_rdata;
 use crate::signature_view::SignatureView;
-use dns_wire::{BinDecoder, DecodeError, RecordType};
+use dns_types::RecordType;
+use dns_wire::{BinDecoder, DecodeError};
 use sec_sigdata::TsigView;
 
 /// A message in its own octets, its lists left out.
@@ -27,27 +29,32 @@ pub(crate) struct Outline<'a> {
 
 /// Passes questions.
 #[tactic(auto, using(crate::proofs::Each::end_more, crate::proofs::Each::end_none))]
-pub(crate) fn skip_queries(
-    mut reader: BinDecoder<'_>,
+pub(crate) fn skip_queries<'a>(
+    mut reader: BinDecoder<'a>,
     count: u16,
-) -> Result<BinDecoder<'_>, DecodeError>
-    ensures { Reaches reader.entry result (end_of (queries_at count (octets reader.entry) (place reader.entry))) }
+    jumps: &mut [u16],
+) -> Result<BinDecoder<'a>, DecodeError>
+    requires jumps { AreJumps (octets reader) jumps.old }
+    ensures jumps { AreJumps (octets reader.entry) jumps.new }
+    ensures reaches { Reaches reader.entry result (end_of (queries_at count (octets reader.entry) (place reader.entry))) }
 {
     'queries: for _ in 0..count {
-        skip_query(&mut reader)?;
+        skip_query(&mut reader, jumps)?;
     }
     Ok(reader)
 }
 
 /// Passes a record, and gives its type.
 #[tactic(auto, unfolding(dns_grammar::specs::Messages::record_at))]
-fn skip_record(decoder: &mut BinDecoder<'_>) -> Result<RecordType, DecodeError>
+fn skip_record(decoder: &mut BinDecoder<'_>, jumps: &mut [u16]) -> Result<RecordType, DecodeError>
+    requires jumps { AreJumps (octets decoder.old) jumps.old }
+    ensures jumps { AreJumps (octets decoder.old) jumps.new }
     ensures exact { Reads (λ rtype. rtype) result (place decoder.old) (place decoder.new) (type_at (record_at short_table false (octets decoder.old) (place decoder.old))) }
     ensures octets { octets decoder.new ≡ octets decoder.old }
     ensures forward { place decoder.old ≤ place decoder.new }
 {
     let mut reader = *decoder;
-    let head = RecordHead::read(&mut reader)?;
+    let head = RecordHead::read_with(&mut reader, jumps)?;
     if head.rtype == RecordType::TSIG {
         return Err(DecodeError::TsigNotLast);
     }
@@ -62,12 +69,15 @@ fn skip_records<'a>(
     mut reader: BinDecoder<'a>,
     count: u16,
     types: &[RecordType],
+    jumps: &mut [u16],
 ) -> Result<(bool, BinDecoder<'a>), DecodeError>
-    ensures { Yields (λ pass. pass) reader.entry result (all_pass (type_passes (is_one_of types.now)) (records_at short_table count (octets reader.entry) (place reader.entry))) }
+    requires jumps { AreJumps (octets reader) jumps.old }
+    ensures jumps { AreJumps (octets reader.entry) jumps.new }
+    ensures yields { Yields (λ pass. pass) reader.entry result (all_pass (type_passes (is_one_of types.now)) (records_at short_table count (octets reader.entry) (place reader.entry))) }
 {
     let mut pass = true;
     'records: for _ in 0..count {
-        let rtype = skip_record(&mut reader)?;
+        let rtype = skip_record(&mut reader, jumps)?;
         pass &= types.contains(&rtype);
     }
     Ok((pass, reader))
@@ -123,17 +133,20 @@ impl<'a> Outline<'a> {
         header: Header,
         reader: BinDecoder<'a>,
         types: &[RecordType],
+        jumps: &mut [u16],
     ) -> Result<Outline<'a>, DecodeError>
+        requires jumps { AreJumps (octets reader) jumps.old }
         ensures exact { Gives outline_view result (outline_behind short_table (is_one_of types.now) (octets reader.entry) (header_view header) (place reader.entry)) }
         ensures placed { IfOk result (λ outline. ForSome outline.signature (IsPlaced (place reader.entry) (octets reader.entry) outline.header)) }
     {
-        let reader = skip_queries(reader, header.questions)?;
-        let (answers, reader) = skip_records(reader, header.answers, types)?;
-        let (authorities, reader) = skip_records(reader, header.authorities, types)?;
+        let reader = skip_queries(reader, header.questions, jumps)?;
+        let (answers, reader) = skip_records(reader, header.answers, types, jumps)?;
+        let (authorities, reader) = skip_records(reader, header.authorities, types, jumps)?;
         let (others, mut reader) = skip_records(
             reader,
             header.additionals.saturating_sub(1),
             types,
+            jumps,
         )?;
         match read_last(&mut reader, header.additionals, types) {
             Ok((signature, last)) => Ok(Outline {
@@ -144,6 +157,32 @@ impl<'a> Outline<'a> {
             }),
             Err(fault) => Err(fault),
         }
+    }
+
+    /// The same with a small table of jumps.
+    fn read_behind_small(
+        header: Header,
+        reader: BinDecoder<'a>,
+        types: &[RecordType],
+    ) -> Result<Outline<'a>, DecodeError>
+        ensures exact { Gives outline_view result (outline_behind short_table (is_one_of types.now) (octets reader.entry) (header_view header) (place reader.entry)) }
+        ensures placed { IfOk result (λ outline. ForSome outline.signature (IsPlaced (place reader.entry) (octets reader.entry) outline.header)) }
+    {
+        let mut jumps = [0; 512];
+        Outline::read_behind(header, reader, types, &mut jumps)
+    }
+
+    /// The same with a table of jumps for each place that a pointer reaches.
+    fn read_behind_large(
+        header: Header,
+        reader: BinDecoder<'a>,
+        types: &[RecordType],
+    ) -> Result<Outline<'a>, DecodeError>
+        ensures exact { Gives outline_view result (outline_behind short_table (is_one_of types.now) (octets reader.entry) (header_view header) (place reader.entry)) }
+        ensures placed { IfOk result (λ outline. ForSome outline.signature (IsPlaced (place reader.entry) (octets reader.entry) outline.header)) }
+    {
+        let mut jumps = [0; 0x4000];
+        Outline::read_behind(header, reader, types, &mut jumps)
     }
 
     /// The outline of the message in these octets, which tells whether each record is of one of the types.
@@ -157,6 +196,10 @@ impl<'a> Outline<'a> {
             return Err(DecodeError::MessageTooLong);
         }
         let (header, reader) = Header::read(message)?;
-        Outline::read_behind(header, reader, types)
+        if message.len() <= 512 {
+            Outline::read_behind_small(header, reader, types)
+        } else {
+            Outline::read_behind_large(header, reader, types)
+        }
     }
 }

@@ -1,10 +1,13 @@
 //! Headers, questions and records of a message, read from its octets without memory (RFC 1035 4.1).
 ghost use Rattle.std.specs.Prelude.{◌≡◌, ◌≤◌, IfOk};
 ghost use Rattle.dns_wire.specs.Reading.{octets, place, Gives, Reads};
+ghost use Rattle.dns_names.specs.Jumps.{AreJumps};
 ghost use Rattle.dns_grammar.specs.Messages.{header_at, head_at, query_at, end_of};
 ghost use Rattle.sec_tsig.specs.Views.{header_view, head_view, Passes};
 
-use dns_wire::{BinDecoder, DNSClass, DecodeError, Name, RecordType};
+use dns_names::Name;
+use dns_types::{DNSClass, RecordType};
+use dns_wire::{BinDecoder, DecodeError};
 
 /// The ID of a message, its flags, and how many questions and records it has.
 #[derive(Clone, Copy, Debug)]
@@ -59,14 +62,16 @@ impl Header {
 
 /// Passes a question.
 #[tactic(auto, unfolding(dns_grammar::specs::Messages::query_at))]
-pub(crate) fn skip_query(decoder: &mut BinDecoder<'_>) -> Result<(), DecodeError>
+pub(crate) fn skip_query(decoder: &mut BinDecoder<'_>, jumps: &mut [u16]) -> Result<(), DecodeError>
+    requires jumps { AreJumps (octets decoder.old) jumps.old }
+    ensures jumps { AreJumps (octets decoder.old) jumps.new }
     ensures exact { Passes result (place decoder.old) (place decoder.new) (end_of (query_at (octets decoder.old) (place decoder.old))) }
     ensures octets { octets decoder.new ≡ octets decoder.old }
     ensures forward { place decoder.old ≤ place decoder.new }
 {
     let mut reader = *decoder;
     let end = reader.buffer().len();
-    Name::read_within(&mut reader, end)?;
+    Name::read_with(&mut reader, end, jumps)?;
     reader.read_u16_within(end)?;
     reader.read_u16_within(end)?;
     *decoder = reader;
@@ -75,8 +80,23 @@ pub(crate) fn skip_query(decoder: &mut BinDecoder<'_>) -> Result<(), DecodeError
 
 impl RecordHead {
     /// Reads what stands before the data of a record.
-    #[tactic(auto, unfolding(dns_grammar::specs::Messages::head_at))]
     pub(crate) fn read(decoder: &mut BinDecoder<'_>) -> Result<RecordHead, DecodeError>
+        ensures exact { Reads head_view result (place decoder.old) (place decoder.new) (head_at (octets decoder.old) (place decoder.old)) }
+        ensures start { IfOk result (λ head. head.start ≡ place decoder.old) }
+        ensures octets { octets decoder.new ≡ octets decoder.old }
+        ensures forward { place decoder.old ≤ place decoder.new }
+    {
+        RecordHead::read_with(decoder, &mut [])
+    }
+
+    /// Reads what stands before the data of a record, its name through known jumps.
+    #[tactic(auto, unfolding(dns_grammar::specs::Messages::head_at))]
+    pub(crate) fn read_with(
+        decoder: &mut BinDecoder<'_>,
+        jumps: &mut [u16],
+    ) -> Result<RecordHead, DecodeError>
+        requires jumps { AreJumps (octets decoder.old) jumps.old }
+        ensures jumps { AreJumps (octets decoder.old) jumps.new }
         ensures exact { Reads head_view result (place decoder.old) (place decoder.new) (head_at (octets decoder.old) (place decoder.old)) }
         ensures start { IfOk result (λ head. head.start ≡ place decoder.old) }
         ensures octets { octets decoder.new ≡ octets decoder.old }
@@ -85,7 +105,7 @@ impl RecordHead {
         let mut reader = *decoder;
         let start = reader.index();
         let end = reader.buffer().len();
-        let name = Name::read_within(&mut reader, end)?;
+        let name = Name::read_with(&mut reader, end, jumps)?;
         let rtype = reader.read_u16_within(end)?;
         let dns_class = reader.read_u16_within(end)?;
         let ttl = reader.read_u32_within(end)?;

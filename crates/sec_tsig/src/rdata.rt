@@ -7,7 +7,8 @@ ghost use Rattle.dns_grammar.specs.Messages.{end_of};
 ghost use Rattle.sec_tsig.specs.Views.{is_row, Passes};
 
 use dns_grammar::expect_end;
-use dns_wire::{BinDecoder, DecodeError, RecordType};
+use dns_types::RecordType;
+use dns_wire::{BinDecoder, DecodeError};
 use sec_sigdata::TsigView;
 
 /// Whether an address fills the octets up to `end`.

@@ -1,6 +1,6 @@
 //! A transaction signature in the octets of its message.
 
-use dns_wire::Name;
+use dns_names::Name;
 use sec_sigdata::TsigView;
 
 /// A TSIG record of a message, and the place where it starts.

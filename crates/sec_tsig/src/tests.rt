@@ -3,7 +3,8 @@
 //! The key is twenty octets 0b, its name `k.`, the fudge 300.
 
 use crate::{FirstError, FirstSignError, FirstSigner, FirstVerifier};
-use dns_wire::{DNSClass, Name, RecordType};
+use dns_names::Name;
+use dns_types::{DNSClass, RecordType};
 use std::alloc::Global;
 use std::test::Fail;
 

@@ -2,12 +2,14 @@
 ghost use Rattle.std.specs.Prelude.{◌≡◌, ◌<◌, ◌≤◌, ◌+◌, ◌^◌, ◌++◌, length, Some, IfOk};
 ghost use Rattle.std.specs.Option.{option_and_then};
 ghost use Rattle.std.specs.Result.{result_ok};
-ghost use Rattle.dns_wire.specs.Names.{wire};
+ghost use Rattle.dns_names.specs.Names.{wire};
 ghost use Rattle.sec_sigdata.specs.TsigRecords.{view_data, view_fields, TsigFits};
 ghost use Rattle.sec_tsig.specs.Views.{Puts};
 ghost use Rattle.sec_tsig.specs.Tsig.{join, tsig_record};
 
-use dns_wire::{BinEncoder, DNSClass, EmitError, Name, RecordType};
+use dns_names::Name;
+use dns_types::{DNSClass, RecordType};
+use dns_wire::{BinEncoder, EmitError};
 use sec_sigdata::TsigView;
 use std::alloc::Global;
 

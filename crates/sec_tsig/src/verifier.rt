@@ -19,7 +19,7 @@ use crate::parts::Header;
 use crate::record_sets::record_sets;
 use crate::signature_view::SignatureView;
 use crate::signer::FirstSigner;
-use dns_wire::RecordType;
+use dns_types::RecordType;
 use sec_digest::Mac;
 use std::alloc::Global;
 use std::marker::Model;

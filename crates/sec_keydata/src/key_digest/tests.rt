@@ -1,6 +1,6 @@
 //! Tags and digests of keys, as Python's `hashlib` and RFC 4034 appendix B give them.
 use crate::{DNSKEY, DS, KeyDataError};
-use dns_wire::Name;
+use dns_names::Name;
 use sec_codes::{Algorithm, PublicKeyBuf};
 use sec_digest::DigestType;
 use std::alloc::{AllocError, Global};

@@ -1,6 +1,6 @@
 //! Keys and digests from text, with those of RFC 4034 5.4.
 use crate::{DNSKEY, DS, TokenError, TokenField};
-use dns_wire::Name;
+use dns_names::Name;
 use sec_codes::{Algorithm, PublicKey};
 use sec_digest::DigestType;
 use std::alloc::Global;

@@ -1,8 +1,8 @@
 //! NSEC data made, read, written and printed, with octets and texts spelled out from RFC 4034 4.
 use crate::NSEC;
-use dns_wire::{
-    BinDecoder, BinEncodable, BinEncoder, DecodeError, Name, RecordDataDecodable, RecordType,
-};
+use dns_names::Name;
+use dns_types::RecordType;
+use dns_wire::{BinDecoder, BinEncodable, BinEncoder, DecodeError, RecordDataDecodable};
 use std::test::Fail;
 
 /// The next name `MX.`, and no types.

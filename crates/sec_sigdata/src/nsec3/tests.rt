@@ -1,9 +1,8 @@
 //! NSEC3 data made, read, written and printed, with octets and texts spelled out from RFC 5155 3.
 use crate::NSEC3;
-use dns_wire::{
-    BinDecoder, BinEncodable, BinEncoder, DecodeError, EmitError, Label, RecordDataDecodable,
-    RecordType,
-};
+use dns_names::Label;
+use dns_types::RecordType;
+use dns_wire::{BinDecoder, BinEncodable, BinEncoder, DecodeError, EmitError, RecordDataDecodable};
 use sec_digest::Nsec3HashAlgorithm;
 use std::alloc::Global;
 use std::test::Fail;

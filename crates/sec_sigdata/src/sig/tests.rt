@@ -1,8 +1,9 @@
 //! SIG and RRSIG data read, written and printed, with octets and texts spelled out from RFC 4034 3 and Python's `base64.b64encode`.
 use crate::{RRSIG, SIG, SigInput};
+use dns_names::Name;
+use dns_types::RecordType;
 use dns_wire::{
-    BinDecoder, BinEncodable, BinEncoder, DecodeError, Name, RecordDataDecodable, RecordType,
-    SerialNumber,
+    BinDecoder, BinEncodable, BinEncoder, DecodeError, RecordDataDecodable, SerialNumber,
 };
 use sec_codes::Algorithm;
 use std::test::Fail;

@@ -1,8 +1,8 @@
 //! TSIG data read, written and printed, with octets spelled out from RFC 8945 4.2 and 4.3.
 use crate::{TSIG, TsigAlgorithm, TsigError, TsigView};
+use dns_names::Name;
 use dns_wire::{
-    BinDecoder, BinEncodable, BinEncoder, DecodeError, EmitError, Name, NameEncoding,
-    RecordDataDecodable,
+    BinDecoder, BinEncodable, BinEncoder, DecodeError, EmitError, NameEncoding, RecordDataDecodable,
 };
 use std::alloc::{AllocError, Global};
 use std::test::Fail;

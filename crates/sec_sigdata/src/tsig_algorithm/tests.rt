@@ -1,8 +1,7 @@
 //! Algorithms, their names and MACs: names from RFC 8945 6, MACs from RFC 4231 4.2 and Python's `hmac`.
 use crate::{DnsSecError, TsigAlgorithm};
-use dns_wire::{
-    BinDecodable, BinDecoder, BinEncodable, BinEncoder, DecodeError, Name, NameEncoding,
-};
+use dns_names::Name;
+use dns_wire::{BinDecodable, BinDecoder, BinEncodable, BinEncoder, DecodeError, NameEncoding};
 use std::test::Fail;
 
 const KEY: [u8; 20] = [0x0b; 20];

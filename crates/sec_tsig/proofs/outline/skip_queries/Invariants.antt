@@ -1,4 +1,5 @@
 use Rattle.std.proofs.Common.{◌≡◌, ◌-◌, ◌≤◌}
+use Rattle.dns_names.specs.Jumps.{AreJumps}
 use Rattle.dns_wire.specs.Reading.{octets, place}
 use Rattle.dns_grammar.specs.Messages.{end_of, queries_at}
 use Rattle.sec_tsig.proofs.outline.skip_queries.Given as goal
@@ -9,4 +10,5 @@ invariant-queries l = record {
   left : end_of (queries_at (l.count - l.counter) (octets l.reader) (place l.reader)) ≡ end_of (queries_at l.count (octets l.fn.reader) (place l.fn.reader));
   forward : place l.fn.reader ≤ place l.reader;
   same : octets l.reader ≡ octets l.fn.reader;
+  jumps : AreJumps (octets l.reader) l.jumps;
 }

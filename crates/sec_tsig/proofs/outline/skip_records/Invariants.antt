@@ -1,4 +1,5 @@
 use Rattle.std.proofs.Common.{◌≡◌, ◌-◌, ◌≤◌}
+use Rattle.dns_names.specs.Jumps.{AreJumps}
 use Rattle.dns_wire.specs.Reading.{octets, place}
 use Rattle.dns_grammar.specs.Tables.{short_table}
 use Rattle.dns_grammar.specs.Messages.{all_pass, records_at, type_passes}
@@ -13,4 +14,5 @@ invariant-records l = record {
       ≡ all_pass (type_passes (is_one_of l.types)) (records_at short_table l.count (octets l.fn.reader) (place l.fn.reader));
   forward : place l.fn.reader ≤ place l.reader;
   same : octets l.reader ≡ octets l.fn.reader;
+  jumps : AreJumps (octets l.reader) l.jumps;
 }

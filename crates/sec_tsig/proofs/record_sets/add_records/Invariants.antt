@@ -1,4 +1,5 @@
 use Rattle.std.proofs.Common.{◌≡◌, ◌-◌, ◌≤◌}
+use Rattle.dns_names.specs.Jumps.{AreJumps}
 use Rattle.dns_wire.specs.Reading.{each_at, octets, place}
 use Rattle.sec_tsig.specs.SetReading.{added_sets, set_at}
 use Rattle.sec_tsig.proofs.record_sets.add_records.Given as goal
@@ -10,4 +11,5 @@ invariant-records l = record {
       ≡ added_sets l.fn.sets (each_at (set_at l.section (octets l.fn.reader)) l.count (place l.fn.reader));
   forward : place l.fn.reader ≤ place l.reader;
   same : octets l.reader ≡ octets l.fn.reader;
+  jumps : AreJumps (octets l.reader) l.jumps;
 }

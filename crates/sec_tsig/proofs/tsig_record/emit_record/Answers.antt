@@ -1,6 +1,6 @@
 use Rattle.std.proofs.Common.{◌≡◌, ◌+◌, ◌++◌, ℕ, List, Ok, length, refl, ap, subst, ◌∙◌, arith}
 use Rattle.dns_wire.specs.Octets.{two_octets, four_octets}
-use Rattle.dns_wire.specs.Names.{wire}
+use Rattle.dns_names.specs.Names.{wire}
 use Rattle.dns_wire.specs.Writing.{Writes}
 use Rattle.dns_grammar.specs.RecordData.{tsig_type}
 use Rattle.sec_sigdata.specs.TsigRecords.{any_class, view_data}

@@ -1,6 +1,6 @@
 use Rattle.std.proofs.Common.{◌≡◌, ◌++◌, ◌+◌, ℕ, List, length, take, refl, ap, sym, ◌∙◌, append_assoc, arith, length-append}
 use Rattle.std.proofs.lemmas.List.{take_at}
-use Rattle.dns_wire.specs.Names.{wire, low}
+use Rattle.dns_names.specs.Names.{wire, low}
 use Rattle.sec_keydata.specs.KeyFields.{fields_key}
 use Rattle.sec_keydata.specs.KeyTags.{dnskey_octets}
 use Rattle.sec_keydata.proofs.key_fields.KeyFields.before_key.Goals as goal

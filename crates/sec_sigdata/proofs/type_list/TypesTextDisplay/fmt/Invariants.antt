@@ -2,7 +2,7 @@ use Rattle.std.proofs.Common.{◌++◌}
 use Rattle.std.specs.Prelude.{codes}
 use Rattle.std.specs.List.{flat_map}
 use Rattle.std.specs.Fmt.{HasWritten, IsPlainFormatter}
-use Rattle.dns_wire.specs.Codes.{type_text}
+use Rattle.dns_types.specs.Codes.{type_text}
 use Rattle.sec_sigdata.proofs.type_list.TypesTextDisplay.fmt.Given as goal
 
 -- the types so far are written

@@ -1,0 +1,6 @@
+use Rattle.std.proofs.Common.{◌≡◌, take}
+use Rattle.dns_names.specs.Names.{IsName}
+use Rattle.dns_names.proofs.name.Name.from_labels.Given as goal
+
+abbrev pub invariant-loop-label : goal.invariant-loop-label
+invariant-loop-label l = (l.name ≡ take l.label-index l.labels) × IsName l.name

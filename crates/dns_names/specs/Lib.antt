@@ -1,0 +1,6 @@
+pub mod Names
+pub mod NameLaws
+pub mod NameWriting
+pub mod Places
+pub mod NameText
+pub mod Jumps

@@ -1,0 +1,13 @@
+//! Tests of octets, names and types.
+#![tactic(auto)]
+
+#[cfg(test)]
+mod code_text;
+#[cfg(test)]
+mod hierarchy;
+#[cfg(test)]
+mod traits;
+#[cfg(test)]
+mod type_set;
+#[cfg(test)]
+mod wire;

@@ -1,0 +1,263 @@
+//! Names, numbers and codes against the RFCs' examples and values written by hand from the rules.
+use dns_names::{Label, Name};
+use dns_types::{DNSClass, RecordType};
+use dns_wire::{
+    BinDecoder, BinEncodable, BinEncoder, DecodeError, NameEncoding, NameError, Octets,
+};
+use std::collections::{BTreeMap, BTreeSet};
+use std::test::Fail;
+
+#[test]
+fn reads_a_compressed_name(rt: HostRuntime) -> Result<(), Fail> {
+    // RFC 1035 4.1.4: F.ISI.ARPA at 20, FOO.F.ISI.ARPA at 40, the root at 92.
+    let mut octets = [0u8; 93];
+    octets[20..32].copy_from_slice(b"\x01F\x03ISI\x04ARPA\x00");
+    octets[40..46].copy_from_slice(b"\x03FOO\xc0\x14");
+    let mut decoder = BinDecoder::new(&octets);
+    let skipped = decoder.read_slice(40)?;
+    assert_eq!(rt; skipped.len(), 40);
+    let name = Name::read(&mut decoder)?;
+    assert_eq!(rt; decoder.index(), 46);
+    let text = format!(in rt.alloc(); "{name}")?;
+    assert_eq!(rt; text.as_str(), "FOO.F.ISI.ARPA.");
+    assert!(rt; name == Name::from_ascii("foo.f.isi.arpa")?);
+    let skipped = decoder.read_slice(46)?;
+    assert_eq!(rt; skipped.len(), 46);
+    assert!(rt; Name::read(&mut decoder)?.is_root());
+    Ok(())
+}
+
+#[test]
+fn reads_names_within_bounds(rt: HostRuntime) -> Result<(), Fail> {
+    // The octets, the place and the end; then the text and the next place, or the fault, at which the decoder stays.
+    let cases: [(&[u8], usize, usize, Result<(&str, usize), DecodeError>); 8] = [
+        (b"\x01a\x00\xc0\x00", 3, 5, Ok(("a.", 5))),
+        (
+            b"\x01a\x00\xc0\x00",
+            3,
+            4,
+            Err(DecodeError::InsufficientBytes),
+        ),
+        (
+            b"\x01a\x00\xc0\x00",
+            0,
+            2,
+            Err(DecodeError::InsufficientBytes),
+        ),
+        // a pointer to itself, to the start of its run, and to an octet of its run's label that would read as the root
+        (b"\xc0\x00", 0, 2, Err(DecodeError::NameMalformed)),
+        (b"\x01a\xc0\x00", 0, 4, Err(DecodeError::NameMalformed)),
+        (
+            b"\x00\x01\x00\xc0\x02",
+            1,
+            5,
+            Err(DecodeError::NameMalformed),
+        ),
+        // a length octet of 64
+        (b"\x40aaaa", 0, 5, Err(DecodeError::NameMalformed)),
+        // a pointer into the header, whose ID is 0161 and whose flags are 0000
+        (
+            b"\x01a\x00\x00\x00\x01\x00\x00\x00\x00\x00\x00\xc0\x00",
+            12,
+            14,
+            Ok(("a.", 14)),
+        ),
+    ];
+    for (octets, place, end, want) in cases {
+        let mut decoder = BinDecoder::new(octets);
+        assert!(rt; place <= end && end <= octets.len());
+        decoder.set_index(place);
+        let read = Name::read_within(&mut decoder, end);
+        match (read, want) {
+            (Ok(name), Ok((text, next))) => {
+                let shown = format!(in rt.alloc(); "{name}")?;
+                assert_eq!(rt; shown.as_str(), text);
+                assert_eq!(rt; decoder.index(), next);
+            }
+            (Err(fault), Err(wanted)) => {
+                assert!(rt; fault == wanted);
+                assert_eq!(rt; decoder.index(), place);
+            }
+            _ => assert!(rt; false, "at {place}"),
+        }
+    }
+    Ok(())
+}
+
+#[test]
+fn keeps_names_to_their_limits(rt: HostRuntime) -> Result<(), Fail> {
+    let octets = [b'a'; 64];
+    let longest = Label::from_bytes(&octets[..63])?;
+    assert_eq!(rt; longest.as_slice().len(), 63);
+    assert!(rt; matches!(Label::from_bytes(&octets), Err(NameError::LabelTooLong)));
+    assert!(rt; matches!(Label::from_bytes(b""), Err(NameError::EmptyLabel)));
+
+    // 3 * 64 + 62 + 1 octets, and one more
+    let last = Label::from_bytes(&octets[..61])?;
+    let name = Name::from_labels(&[longest, longest, longest, last])?;
+    assert_eq!(rt; name.len(), 255);
+    assert_eq!(rt; name.iter().count(), 4);
+    let longer = Label::from_bytes(&octets[..62])?;
+    let refused = Name::from_labels(&[longest, longest, longest, longer]);
+    assert!(rt; matches!(refused, Err(NameError::NameTooLong)));
+
+    // the same of what is read
+    let mut encoder = BinEncoder::new(rt.alloc());
+    name.emit(&mut encoder)?;
+    assert_eq!(rt; encoder.len(), 255);
+    assert!(rt; Name::read(&mut BinDecoder::new(encoder.as_slice()))? == name);
+    let mut octets = [b'a'; 256];
+    octets[0] = 63;
+    octets[64] = 63;
+    octets[128] = 63;
+    octets[192] = 62;
+    octets[255] = 0;
+    let read = Name::read(&mut BinDecoder::new(&octets));
+    assert!(rt; matches!(read, Err(DecodeError::NameMalformed)));
+    Ok(())
+}
+
+#[test]
+fn reads_and_writes_text(rt: HostRuntime) -> Result<(), Fail> {
+    // text in, its wire form, text out
+    let names: [(&str, &[u8], &str); 6] = [
+        (".", b"\x00", "."),
+        ("Example.COM", b"\x07Example\x03COM\x00", "Example.COM."),
+        (r"a\.b.c.", b"\x03a.b\x01c\x00", r"a\.b.c."),
+        (
+            r"\000\255\032\009x",
+            b"\x05\x00\xff \tx\x00",
+            r"\000\255\032\009x.",
+        ),
+        (
+            r#"\(\)\;\@\$\\\"\b"#,
+            b"\x08();@$\\\"b\x00",
+            r#"\(\)\;\@\$\\\"b."#,
+        ),
+        ("*._a-1~!", b"\x01*\x06_a-1~!\x00", "*._a-1~!."),
+    ];
+    for (text, wire, shown) in names {
+        let name = Name::from_ascii(text)?;
+        assert_eq!(rt; name.as_wire(), wire, "{text}");
+        let out = format!(in rt.alloc(); "{name}")?;
+        assert_eq!(rt; out.as_str(), shown);
+    }
+    let faults = [
+        ("", NameError::EmptyLabel),
+        ("..", NameError::EmptyLabel),
+        (".a", NameError::EmptyLabel),
+        (r"a..\999", NameError::EmptyLabel),
+        (r"\256", NameError::BadEscape),
+        (r"\25", NameError::BadEscape),
+        (r"\2x5", NameError::BadEscape),
+        (r"a\", NameError::BadEscape),
+        (r"\ ", NameError::BadEscape),
+        ("a b", NameError::BadCharacter),
+        ("\u{e9}", NameError::BadCharacter),
+    ];
+    for (text, fault) in faults {
+        assert!(rt; Name::from_ascii(text) == Err(fault), "{text}");
+    }
+    // four labels of 62 octets make a wire form of 253
+    let label = "a23456789b23456789c23456789d23456789e23456789f23456789g2345678";
+    let four = format!(in rt.alloc(); "{label}.{label}.{label}.{label}")?;
+    assert_eq!(rt; Name::from_ascii(four.as_str())?.len(), 4 * 63 + 1);
+    let more = format!(in rt.alloc(); "{label}.{label}.{label}.{label}.a")?;
+    assert_eq!(rt; Name::from_ascii(more.as_str())?.len(), 255);
+    let too_long = format!(in rt.alloc(); "{label}.{label}.{label}.{label}.ab")?;
+    assert!(rt; Name::from_ascii(too_long.as_str()) == Err(NameError::NameTooLong));
+    let wide = format!(in rt.alloc(); "{label}mn")?;
+    assert!(rt; Name::from_ascii(wide.as_str()) == Err(NameError::LabelTooLong));
+    Ok(())
+}
+
+#[test]
+fn orders_names(rt: HostRuntime) -> Result<(), Fail> {
+    // RFC 4034 6.1
+    let sorted = [
+        "example.",
+        "a.example.",
+        "yljkjljk.a.example.",
+        "Z.a.example.",
+        "zABC.a.EXAMPLE.",
+        "z.example.",
+        r"\001.z.example.",
+        "*.z.example.",
+        r"\200.z.example.",
+    ];
+    let mut set = BTreeSet::new(rt.alloc());
+    let mut counts = BTreeMap::new(rt.alloc());
+    for k in [4, 1, 8, 0, 6, 3, 2, 7, 5, 4] {
+        let name = Name::from_ascii(sorted[k])?;
+        set.insert(name)?;
+        *counts.entry(name)?.or_insert(0) = k;
+    }
+    assert_eq!(rt; set.len(), 9);
+    for (name, text) in set.iter().zip(sorted) {
+        let shown = format!(in rt.alloc(); "{name}")?;
+        assert_eq!(rt; shown.as_str(), text);
+    }
+    assert!(rt; counts.get(&Name::from_ascii(r"\122.EXAMPLE")?) == Some(&5));
+    assert!(rt; Name::root() < Name::from_ascii("example")?);
+    Ok(())
+}
+
+#[test]
+fn writes_and_reads_numbers(rt: HostRuntime) -> Result<(), Fail> {
+    let mut encoder = BinEncoder::new(rt.alloc());
+    encoder.emit_u8(1)?;
+    encoder.emit_u16(0x0203)?;
+    encoder.emit_u32(0x0405_0607)?;
+    encoder.emit_both(b"ab", b"c")?;
+    encoder.emit_vec(b"rest")?;
+    encoder.place_u16(1, 0xfffe);
+    encoder.truncate(11);
+    encoder.set_name_encoding(NameEncoding::UncompressedLowercase);
+    assert!(rt; encoder.name_encoding() == NameEncoding::UncompressedLowercase);
+    Name::from_ascii("A.bC")?.emit(&mut encoder)?;
+    encoder.set_canonical_form(true);
+    assert!(rt; encoder.is_canonical_form());
+    let octets = encoder.into_bytes();
+    let want: &[u8] = b"\x01\xff\xfe\x04\x05\x06\x07abcr\x01a\x02bc\x00";
+    assert_eq!(rt; octets.as_slice(), want);
+
+    let mut decoder = BinDecoder::new(octets.as_slice());
+    assert_eq!(rt; decoder.read_u8()?, 1);
+    assert_eq!(rt; decoder.read_u16()?, 0xfffe);
+    assert_eq!(rt; decoder.read_u32()?, 0x0405_0607);
+    assert_eq!(rt; decoder.len(), 10);
+    let refused = decoder.read_slice(11);
+    assert!(rt; matches!(refused, Err(DecodeError::InsufficientBytes)));
+    assert_eq!(rt; decoder.index(), 7);
+    let held = Octets::from_slice(rt.alloc(), decoder.read_slice(4)?)?;
+    assert!(rt; held.try_clone()? == held && held.len() == 4);
+    Ok(())
+}
+
+#[test]
+fn shows_codes(rt: HostRuntime) -> Result<(), Fail> {
+    let shown = format!(in rt.alloc();
+        "{} {} {} {}",
+        RecordType::A,
+        RecordType::NSEC3PARAM,
+        RecordType::ANY,
+        RecordType::from(3)
+    )?;
+    assert_eq!(rt; shown.as_str(), "A NSEC3PARAM ANY TYPE3");
+    let shown = format!(in rt.alloc();
+        "{} {} {}",
+        DNSClass::IN,
+        DNSClass::NONE,
+        DNSClass::from(65_535)
+    )?;
+    assert_eq!(rt; shown.as_str(), "IN NONE CLASS65535");
+    assert_eq!(rt; u16::from(RecordType::TSIG), 250);
+    assert_eq!(rt; u16::from(DNSClass::ANY), 255);
+    let shown = format!(in rt.alloc();
+        "{} {}",
+        DecodeError::DnsKeyProtocolNot3(2),
+        NameError::BadEscape
+    )?;
+    assert_eq!(rt; shown.as_str(), "DNSKEY protocol 2 is not 3 bad escape");
+    Ok(())
+}

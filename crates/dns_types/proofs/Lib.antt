@@ -1,0 +1,10 @@
+pub mod Numerals
+pub mod CodeTexts
+pub mod TypeBlocks
+pub mod NextBits
+pub mod TypeBits
+pub mod FormLaws
+pub mod TypeLaws
+pub mod TypeWalks
+pub mod EqualForms
+pub mod FormWriting

@@ -1,0 +1,46 @@
+//! Laws of the definitions. Nothing calls these functions.
+ghost use Rattle.std.specs.Prelude.{◌≡◌, ◌↔◌, All, Bool, Contains, IsTrue, ℕ, ◌+◌, ◌^◌, ◌<◌, List, ◌++◌, filter, length, Some};
+ghost use Rattle.std.specs.List.{range_with_len};
+ghost use Rattle.std.specs.List.Sorted.{IsStrictlyIncreasing};
+ghost use Rattle.dns_types.specs.Codes.{type_text, type_of, class_text, class_of};
+ghost use Rattle.dns_types.specs.TypeSets.{Block, AreBlocks, IsBitmap, HasType, is_bitmap, is_ascending, is_one_of, has_type, types, types_at, type_set_at, form_of};
+
+/// The text of each type and each class names it.
+pub fn code_texts_name_their_codes()
+    ensures types { (n : ℕ) → n < 2 ^ 16 → type_of (type_text n) ≡ Some n }
+    ensures classes { (n : ℕ) → n < 2 ^ 16 → class_of (class_text n) ≡ Some n }
+{}
+
+/// The one form of a set of types is a bitmap whose windows ascend, and its types are those of the set.
+pub fn form_of_a_set_has_its_types()
+    ensures bitmap { (has : ℕ → Bool) → IsTrue (is_bitmap (form_of has)) }
+    ensures ascends { (has : ℕ → Bool) → IsTrue (is_ascending (form_of has)) }
+    ensures has { (has : ℕ → Bool) (t : ℕ) → t < 2 ^ 16 → has_type (form_of has) t ≡ has t }
+    ensures types { (has : ℕ → Bool) → types (form_of has) ≡ filter has (range_with_len 0 (2 ^ 16)) }
+{}
+
+/// Two forms are equal exactly where the sets have the same types. So are those of two lists of types, in any order and with
+/// repeats.
+pub fn equal_forms_have_equal_types()
+    ensures sets { (has other : ℕ → Bool) → (form_of has ≡ form_of other) ↔ ((t : ℕ) → t < 2 ^ 16 → has t ≡ other t) }
+    ensures lists { (xs ys : List ℕ) → All (λ t. t < 2 ^ 16) xs → All (λ t. t < 2 ^ 16) ys → (form_of (is_one_of xs) ≡ form_of (is_one_of ys)) ↔ ((t : ℕ) → Contains xs t ↔ Contains ys t) }
+{}
+
+/// A bitmap is read exactly where it stands, and its blocks are one list.
+pub fn bitmap_is_read_where_it_stands()
+    ensures bitmap { (x : List ℕ) → IsTrue (is_bitmap x) ↔ IsBitmap x }
+    ensures one { (x : List ℕ) (a b : List Block) → AreBlocks x a → AreBlocks x b → a ≡ b }
+    ensures member { (x : List ℕ) (t : ℕ) → IsBitmap x → IsTrue (has_type x t) ↔ HasType x t }
+{}
+
+/// The types of a bitmap strictly increase, and are those that it has.
+pub fn types_ascend()
+    ensures ascend { (x : List ℕ) → IsStrictlyIncreasing (types x) }
+    ensures members { (x : List ℕ) (t : ℕ) → IsBitmap x → t < 2 ^ 16 → Contains (types x) t ↔ HasType x t }
+{}
+
+/// A set that is written is read back as the same octets, and so as the same set, whatever lies before and behind it.
+pub fn written_set_is_read()
+    ensures within { (x front rest : List ℕ) → IsBitmap x → types_at (front ++ (x ++ rest)) (length front) (length front + length x) ≡ Ok (x, length front + length x) }
+    ensures data_of_a_record { (x front rest : List ℕ) → IsBitmap x → type_set_at (front ++ (x ++ rest)) (length front) (length x) ≡ Ok (x, length front + length x) }
+{}

@@ -1,5 +1,0 @@
-use Rattle.dns_wire.proofs.CodeTexts.{type_is_named, class_is_named}
-use Rattle.dns_wire.proofs.laws.code_texts_name_their_codes.Goals as goal
-
-pub returns : goal.returns
-returns c = record { types = type_is_named; classes = class_is_named }

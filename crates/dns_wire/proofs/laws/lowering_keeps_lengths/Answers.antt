@@ -1,5 +1,0 @@
-use Rattle.dns_wire.specs.NameLaws.{lowered-wire}
-use Rattle.dns_wire.proofs.laws.lowering_keeps_lengths.Goals as goal
-
-pub returns : goal.returns
-returns c n name = lowered-wire n name.each

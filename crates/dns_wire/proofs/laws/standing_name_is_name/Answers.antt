@@ -1,5 +1,0 @@
-use Rattle.dns_wire.proofs.PlaceLaws.{name_of_octets}
-use Rattle.dns_wire.proofs.laws.standing_name_is_name.Goals as goal
-
-pub returns : goal.returns
-returns c = name_of_octets
