@@ -11,7 +11,7 @@ use Rattle.dns_wire.specs.Octets.{AreOctets, six_octets}
 use Rattle.dns_names.specs.Names.{wire}
 use Rattle.dns_names.specs.NameLaws.{length_lt-wire}
 use Rattle.dns_grammar.specs.Fields.{Size, One, Two, Four, width, limit, Kind, Number, Time, Fixed, Counted, Strings, Rest, Lowered, Kept, Value, Num, Str, Strs, Named, Field, Table, StringsAt, ValueAt, FieldsAt, counted_octets, strings_octets, value_octets, fields_octets}
-use Rattle.dns_grammar.specs.RecordData.{tsig_type, data_at, rdata_at}
+use Rattle.dns_grammar.specs.RecordData.{tsig_type, one_type_data_at, rdata_at}
 use Rattle.dns_grammar.specs.Laws.{Holds, HoldsAll, rest_is_last, ReadIsReadAgain, WrittenRowIsRead, ReadRowIsReadAgain, WrittenDataIsRead, ReadDataIsReadAgain}
 use Rattle.dns_names.proofs.PlaceLaws.{name_of_octets}
 use Rattle.dns_grammar.proofs.DataLaws.{row_stands, row_is_read, rdata_stands}
@@ -156,7 +156,7 @@ positive : (n : ℕ) → n ≢ 0 → 0 < n
 positive n ne = omega arith
 
 pub written_row : (fields : List Field) → rest_is_last fields ≡ true → WrittenRowIsRead fields
-unfolding data_at
+unfolding one_type_data_at
 written_row fields last values x front back holds lt is =
     let fits : ltb (length (front ++ (x ++ back))) (length front + length x) ≡ false = le-ltb _ _ (omega (arith, length-append front (x ++ back), length-append x back)) in
     let some : eqb (length x) 0 ≡ false = ne_eqb (length x) 0 (omega (arith, lt)) in

@@ -13,7 +13,7 @@ use Rattle.dns_names.specs.Places.{name_at}
 use Rattle.dns_names.proofs.PlaceLaws.{name_at_complete}
 use Rattle.dns_names.proofs.Written.{written_name}
 use Rattle.dns_grammar.specs.Fields.{Size, One, Two, Four, width, limit, Kind, Number, Time, Fixed, Counted, Strings, Rest, Lowered, Kept, Value, Num, Str, Strs, Named, Field, value_at, fields_at, joined, counted_octets, strings_octets, strings_at, value_octets, fields_octets}
-use Rattle.dns_grammar.specs.RecordData.{row_at}
+use Rattle.dns_grammar.specs.RecordData.{fields_filling}
 use Rattle.dns_wire.specs.Octets.{six_octets}
 use Rattle.dns_grammar.specs.Laws.{Holds, HoldsAll, takes_rest, rest_is_last}
 use Rattle.dns_grammar.proofs.FieldLaws.{strings_end, strings_more}
@@ -244,8 +244,8 @@ row_back (f ∷ g ∷ fs) (v ∷ []) x last holds is = absurd holds.2
 
 -- What is written of a row's values is read as these values, wherever it stands.
 pub written_reads : (fs : List Field) (vs : List Value) (x front back : List ℕ) → rest_is_last fs ≡ true → HoldsAll fs vs → fields_octets false fs vs ≡ Ok x
-    → row_at fs (front ++ (x ++ back)) (length front) (length front + length x) ≡ Ok vs
-unfolding row_at
+    → fields_filling fs (front ++ (x ++ back)) (length front) (length front + length x) ≡ Ok vs
+unfolding fields_filling
 written_reads fs vs x front back last holds is =
     let full : eqb (length front + length x) (length front + length x) ≡ true = eq-eqb _ _ refl in
     rw (row_back fs vs x last holds is front back, full) refl

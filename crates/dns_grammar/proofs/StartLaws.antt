@@ -5,7 +5,7 @@ use Rattle.std.proofs.lemmas.List.{length-take, length-drop, get_or_append_left,
 use Rattle.dns_names.proofs.PlaceLaws.{labels_forward, labels_next}
 use Rattle.dns_grammar.specs.Fields.{Table}
 use Rattle.dns_grammar.specs.RecordData.{tsig_type}
-use Rattle.dns_grammar.specs.Messages.{ResourceRecord, Message, with_last, EachAt, QueryAt, RecordAt, MessageAt, TsigData, tsig_data, Signature, signature_from, signature_of, HasTsig}
+use Rattle.dns_grammar.specs.Messages.{ResourceRecord, Message, with_last, EachAt, QueryAt, RecordAt, MessageAt, TsigData, tsig_from_values, Signature, signature_from, signature_of, HasTsig}
 use Rattle.dns_grammar.specs.Extents.{SameOctets, IsPrefix, SignatureStartsInside, OneStart}
 use Rattle.dns_grammar.proofs.EachLaws.{each_last}
 use Rattle.dns_grammar.proofs.ExtentLaws.{narrowed, number_same, queries_forward, queries_same, records_forward, records_same}
@@ -31,7 +31,7 @@ chosen_some false x s e = absurd cc
 
 last_is : (last : Option ResourceRecord) (s : Signature) → signature_of last ≡ Some s → IsLast last s
 last_is None s e = absurd cc
-last_is (Some rr) s e = record { rr = rr; is = refl; start = from_start rr (tsig_data rr.rdata) s (chosen_some (eqb rr.rtype tsig_type) _ s e) }
+last_is (Some rr) s e = record { rr = rr; is = refl; start = from_start rr (tsig_from_values rr.rdata) s (chosen_some (eqb rr.rtype tsig_type) _ s e) }
 
 -- the parts of a message up to the signature
 record IsScan (table : Table) (m : List ℕ) (message : Message) (start : ℕ) : Type 0 where

@@ -4,7 +4,7 @@ use Rattle.dns_wire.specs.Octets.{AreOctets}
 use Rattle.dns_names.specs.Names.{IsName, low}
 use Rattle.dns_wire.specs.Reading.{◌>>=◌}
 use Rattle.dns_grammar.specs.Fields.{limit, Kind, Number, Time, Fixed, Counted, Strings, Rest, Lowered, Kept, Value, Num, Str, Strs, Named, Field, Table, fields_octets}
-use Rattle.dns_grammar.specs.RecordData.{tsig_type, RowAt, RDataAt, row_at, data_at, rdata_at, plain, canon, Agree}
+use Rattle.dns_grammar.specs.RecordData.{tsig_type, RowAt, RDataAt, fields_filling, one_type_data_at, rdata_at, plain, canon, Agree}
 use Rattle.dns_grammar.specs.Messages.{ResourceRecord, Message, NotTsig, record_at, record_octets, TsigData, MessageAt, message_at, outline_at, outline_of, tsig_values, signature_of}
 
 -- ---- reading and standing
@@ -12,7 +12,7 @@ use Rattle.dns_grammar.specs.Messages.{ResourceRecord, Message, NotTsig, record_
 -- The data of one known type are read exactly where they stand.
 abbrev pub RowIsReadWhereItStands : List Field → Type 0
 RowIsReadWhereItStands fields = (m : List ℕ) (p len : ℕ) (values : List Value) (q : ℕ)
-    → (data_at fields m p len ≡ Ok (values, q)) ↔ (RowAt fields m p len values × (q ≡ p + len))
+    → (one_type_data_at fields m p len ≡ Ok (values, q)) ↔ (RowAt fields m p len values × (q ≡ p + len))
 
 -- Record data are read exactly where they stand.
 abbrev pub DataIsReadWhereItStands : Table → Type 0
@@ -76,25 +76,25 @@ rest_is_last (field ∷ next ∷ fields) = not (takes_rest field.kind) && rest_i
 -- What is written of values is read as these values, wherever it stands.
 abbrev pub WrittenIsRead : List Field → Type 0
 WrittenIsRead fields = (values : List Value) (x front back : List ℕ) → HoldsAll fields values → fields_octets false fields values ≡ Ok x
-    → row_at fields (front ++ (x ++ back)) (length front) (length front + length x) ≡ Ok values
+    → fields_filling fields (front ++ (x ++ back)) (length front) (length front + length x) ≡ Ok values
 
 -- Values that were read can be written, and what is written of them is read as the same values.
 abbrev pub ReadIsReadAgain : List Field → Type 0
-ReadIsReadAgain fields = (m : List ℕ) (p e : ℕ) (values : List Value) → AreOctets m → e ≤ length m → row_at fields m p e ≡ Ok values
-    → (x : List ℕ) × (fields_octets false fields values ≡ Ok x) × ((front back : List ℕ) → row_at fields (front ++ (x ++ back)) (length front) (length front + length x) ≡ Ok values)
+ReadIsReadAgain fields = (m : List ℕ) (p e : ℕ) (values : List Value) → AreOctets m → e ≤ length m → fields_filling fields m p e ≡ Ok values
+    → (x : List ℕ) × (fields_octets false fields values ≡ Ok x) × ((front back : List ℕ) → fields_filling fields (front ++ (x ++ back)) (length front) (length front + length x) ≡ Ok values)
 
 -- What is written of the values of one known type, which is not empty, is read as data of the type with these values, wherever it stands.
 abbrev pub WrittenRowIsRead : List Field → Type 0
 WrittenRowIsRead fields = (values : List Value) (x front back : List ℕ) → HoldsAll fields values → 0 < length x → fields_octets false fields values ≡ Ok x
-    → data_at fields (front ++ (x ++ back)) (length front) (length x) ≡ Ok (values, length front + length x)
+    → one_type_data_at fields (front ++ (x ++ back)) (length front) (length x) ≡ Ok (values, length front + length x)
 
 -- These values of one known type can be written, and what is written of them is read as data of the type with these values.
 abbrev pub AreReadBack : List Field → List Value → Type 0
-AreReadBack fields values = (x : List ℕ) × (fields_octets false fields values ≡ Ok x) × ((front back : List ℕ) → data_at fields (front ++ (x ++ back)) (length front) (length x) ≡ Ok (values, length front + length x))
+AreReadBack fields values = (x : List ℕ) × (fields_octets false fields values ≡ Ok x) × ((front back : List ℕ) → one_type_data_at fields (front ++ (x ++ back)) (length front) (length x) ≡ Ok (values, length front + length x))
 
 -- Data of one known type that were read can be written, and what is written of them is read as the same data.
 abbrev pub ReadRowIsReadAgain : List Field → Type 0
-ReadRowIsReadAgain fields = (m : List ℕ) (p len : ℕ) (values : List Value) (q : ℕ) → AreOctets m → data_at fields m p len ≡ Ok (values, q) → AreReadBack fields values
+ReadRowIsReadAgain fields = (m : List ℕ) (p len : ℕ) (values : List Value) (q : ℕ) → AreOctets m → one_type_data_at fields m p len ≡ Ok (values, q) → AreReadBack fields values
 
 -- record data that a record of this type may hold, and whose octets are not mistaken for empty data
 abbrev pub HoldsData : Table → ℕ → Option (List Value) → List ℕ → Type 0

@@ -1,9 +1,7 @@
 pub mod Fields
 pub mod RecordData
 pub mod Tables
-pub mod KeyRows
-pub mod SignatureRows
 pub mod Messages
 pub mod Extents
-pub mod Parts
+pub mod FieldsOut
 pub mod Laws

@@ -245,10 +245,10 @@ abbrev pub tsig_values : TsigData → List Value
 tsig_values tsig = Named tsig.algorithm ∷ Num tsig.time ∷ Num tsig.fudge ∷ Str tsig.mac ∷ Num tsig.oid ∷ Num tsig.error ∷ Str tsig.other ∷ []
 
 -- and back
-abbrev pub tsig_data : Option (List Value) → Option TsigData
-tsig_data (Some (Named algorithm ∷ Num time ∷ Num fudge ∷ Str mac ∷ Num oid ∷ Num error ∷ Str other ∷ [])) =
+abbrev pub tsig_from_values : Option (List Value) → Option TsigData
+tsig_from_values (Some (Named algorithm ∷ Num time ∷ Num fudge ∷ Str mac ∷ Num oid ∷ Num error ∷ Str other ∷ [])) =
     Some (record { algorithm = algorithm; time = time; fudge = fudge; mac = mac; oid = oid; error = error; other = other })
-tsig_data _ = None
+tsig_from_values _ = None
 
 -- a transaction signature as a record of a message, and where the record starts
 pub record Signature : Type 0 where
@@ -263,7 +263,7 @@ signature_from rr (Some tsig) = Some (record { start = rr.start; name = rr.name;
 -- the last additional, where that is a transaction signature
 abbrev pub signature_of : Option ResourceRecord → Option Signature
 signature_of None = None
-signature_of (Some rr) = if nat_eq rr.rtype tsig_type then signature_from rr (tsig_data rr.rdata) else None
+signature_of (Some rr) = if nat_eq rr.rtype tsig_type then signature_from rr (tsig_from_values rr.rdata) else None
 
 pub record Outline : Type 0 where
   pub header : Header

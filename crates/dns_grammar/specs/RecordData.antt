@@ -38,24 +38,24 @@ filled_by p e values = if nat_eq values.1 e then Ok values.0 else Err (Incorrect
 
 -- What reading these fields gives where they fill the octets from p up to e, or the first fault: that of the first field from the
 -- left, and then IncorrectRDataLengthRead, with the octets of the fields and the length, where octets are left over.
-unfoldable pub row_at : List Field → List ℕ → ℕ → ℕ → Result (List Value) DecodeError
-row_at fields m p e = fields_at fields m p e >>= filled_by p e
+unfoldable pub fields_filling : List Field → List ℕ → ℕ → ℕ → Result (List Value) DecodeError
+fields_filling fields m p e = fields_at fields m p e >>= filled_by p e
 
 -- the same with the place behind the data
 abbrev pub placed_row_at : List Field → List ℕ → ℕ → ℕ → Result (List Value × ℕ) DecodeError
-placed_row_at fields m p e = row_at fields m p e >>= λ values. Ok (values, e)
+placed_row_at fields m p e = fields_filling fields m p e >>= λ values. Ok (values, e)
 
 -- What reading the data of one known type gives, len octets from p, and the place behind them; or the first fault. InsufficientBytes
 -- where fewer octets are left than len, and where len is 0, come before the fields.
-unfoldable pub data_at : List Field → List ℕ → ℕ → ℕ → Result (List Value × ℕ) DecodeError
-data_at fields m p len =
+unfoldable pub one_type_data_at : List Field → List ℕ → ℕ → ℕ → Result (List Value × ℕ) DecodeError
+one_type_data_at fields m p len =
     if nat_lt (length m) (p + len) then Err InsufficientBytes
     else if nat_eq len 0 then Err InsufficientBytes
     else placed_row_at fields m p (p + len)
 
 -- some data, and the place behind them
 abbrev pub some_row_at : List Field → List ℕ → ℕ → ℕ → Result (Option (List Value) × ℕ) DecodeError
-some_row_at fields m p e = row_at fields m p e >>= λ values. Ok (Some values, e)
+some_row_at fields m p e = fields_filling fields m p e >>= λ values. Ok (Some values, e)
 
 -- What reading the data of a record of this type gives, len octets from p, and the place behind them; or the first fault, in this
 -- order. InsufficientBytes where fewer octets are left than len. InsufficientBytes where len is 0 and the type TSIG; every other type

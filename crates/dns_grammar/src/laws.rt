@@ -2,8 +2,6 @@
 ghost use Rattle.std.specs.Prelude.{IsTrue, List, ℕ};
 ghost use Rattle.dns_grammar.specs.Fields.{Field, Table};
 ghost use Rattle.dns_grammar.specs.Tables.{IsTable, short_table};
-ghost use Rattle.dns_grammar.specs.KeyRows.{key_table};
-ghost use Rattle.dns_grammar.specs.SignatureRows.{security_table};
 ghost use Rattle.dns_grammar.specs.Extents.{SignatureStartsInside, OneStart};
 ghost use Rattle.dns_grammar.specs.Laws.{RowIsReadWhereItStands, DataIsReadWhereItStands, OneData, MessageIsReadWhereItStands, OneMessage, OutlineIsOfMessage, SignatureIsWhole, rest_is_last, WrittenIsRead, WrittenRowIsRead, WrittenDataIsRead, WrittenRecordIsRead, ReadIsReadAgain, ReadRowIsReadAgain, ReadDataIsReadAgain, CanonicalIsPlain, AgreeingHaveOneForm};
 
@@ -62,16 +60,4 @@ pub fn one_start()
 pub fn short_table_is_table()
     ensures tsig { IsTable short_table }
     ensures rest { (rtype : ℕ) → IsTrue (rest_is_last (short_table rtype)) }
-{}
-
-/// The table of keys knows transaction signatures, and no field before the last takes all that is left.
-pub fn key_table_is_table()
-    ensures tsig { IsTable key_table }
-    ensures rest { (rtype : ℕ) → IsTrue (rest_is_last (key_table rtype)) }
-{}
-
-/// The table of DNSSEC and TSIG knows transaction signatures, and no field before the last takes all that is left.
-pub fn security_table_is_table()
-    ensures tsig { IsTable security_table }
-    ensures rest { (rtype : ℕ) → IsTrue (rest_is_last (security_table rtype)) }
 {}

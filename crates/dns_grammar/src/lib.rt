@@ -2,10 +2,10 @@
 #![tactic(auto)]
 
 pub mod laws;
-mod part;
+mod field_out;
 mod span;
 #[cfg(test)]
 mod tests;
 
-pub use part::{Part, emit_parts};
+pub use field_out::{FieldOut, emit_fields};
 pub use span::{data_end, expect_end};

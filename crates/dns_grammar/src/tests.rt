@@ -1,5 +1,5 @@
 //! Fields written and ends of data found, with octets spelled out from RFC 1035 4.1 and RFC 8945 4.2.
-use crate::{Part, data_end, emit_parts, expect_end};
+use crate::{FieldOut, data_end, emit_fields, expect_end};
 use dns_names::Name;
 use dns_wire::{BinDecoder, BinEncoder, DecodeError, EmitError};
 use std::test::Fail;
@@ -11,17 +11,17 @@ fn fields_are_written(rt: HostRuntime) -> Result<(), Fail> {
     let mut encoder = BinEncoder::new(alloc);
     encoder.set_canonical_form(true);
     let fields = [
-        Part::Kept(&name),
-        Part::Lowered(&name),
-        Part::Time(0x0102_0304_0506),
-        Part::U8(7),
-        Part::U16(300),
-        Part::U32(0x0a0b_0c0d),
-        Part::Counted16(&[0xaa, 0xbb], EmitError::MacTooLong),
-        Part::Counted8(&[], EmitError::SaltTooLong),
-        Part::Octets(&[9, 8]),
+        FieldOut::Kept(&name),
+        FieldOut::Lowered(&name),
+        FieldOut::Time(0x0102_0304_0506),
+        FieldOut::U8(7),
+        FieldOut::U16(300),
+        FieldOut::U32(0x0a0b_0c0d),
+        FieldOut::Counted16(&[0xaa, 0xbb], EmitError::MacTooLong),
+        FieldOut::Counted8(&[], EmitError::SaltTooLong),
+        FieldOut::Octets(&[9, 8]),
     ];
-    emit_parts(&mut encoder, &fields)?;
+    emit_fields(&mut encoder, &fields)?;
     let octets = [
         2u8, b'A', b'b', 1, b'c', 0, 2, b'a', b'b', 1, b'c', 0, 1, 2, 3, 4, 5, 6, 7, 1, 44, 10, 11,
         12, 13, 0, 2, 0xaa, 0xbb, 0, 9, 8,
@@ -36,16 +36,16 @@ fn refused_fields_leave_nothing(rt: HostRuntime) -> Result<(), Fail> {
     let long = [0u8; 256];
     let mut encoder = BinEncoder::new(alloc);
     encoder.emit_u8(5)?;
-    let salt = emit_parts(
+    let salt = emit_fields(
         &mut encoder,
         &[
-            Part::U8(1),
-            Part::Counted8(&long, EmitError::SaltTooLong),
-            Part::Time(1 << 48),
+            FieldOut::U8(1),
+            FieldOut::Counted8(&long, EmitError::SaltTooLong),
+            FieldOut::Time(1 << 48),
         ],
     );
     assert_eq!(rt; salt, Err(EmitError::SaltTooLong));
-    let time = emit_parts(&mut encoder, &[Part::Octets(&long), Part::Time(1 << 48)]);
+    let time = emit_fields(&mut encoder, &[FieldOut::Octets(&long), FieldOut::Time(1 << 48)]);
     assert_eq!(rt; time, Err(EmitError::TimeTooLarge));
     assert_eq!(rt; encoder.as_slice(), [5u8].as_slice());
     Ok(())

@@ -3,11 +3,11 @@ use Rattle.std.proofs.Common.{◌≡◌, ℕ, ◌+◌, ◌≤◌, List, ◌++◌
 use Rattle.std.proofs.KnownBytes.{Appends-trans}
 use Rattle.std.specs.Io.KnownBytes.{Appends, Consumes}
 use Rattle.dns_io.specs.Counts.{raised}
-use Rattle.dns_io.specs.declared.transfer.TheConstants.{LIMIT}
+use Rattle.dns_io.specs.declared.transfer.TheConstants.{INPUT_LIMIT}
 
 -- what has been read is what the source has lost, and is counted
 pub record HasRead (left now : Option (List ℕ)) (taken takes faults fails : ℕ) (content : List ℕ) : Type 0 where
-  pub within : length content ≤ LIMIT + 1
+  pub within : length content ≤ INPUT_LIMIT + 1
   pub consumed : Consumes left now content
   pub counted : takes ≡ raised taken (length content)
   pub later : faults ≤ fails

@@ -3,14 +3,14 @@ use Rattle.std.specs.Prelude.{◌≡◌, ◌<◌, ◌≤◌, ℕ, List, ◌++◌
 use Rattle.std.specs.declared.alloc.Global.{Global}
 use Rattle.std.specs.declared.option.Option.{Option}
 use Rattle.std.specs.Io.KnownBytes.{Appends, Consumes}
-use Rattle.dns_io.specs.declared.transfer.TheConstants.{LIMIT}
+use Rattle.dns_io.specs.declared.transfer.TheConstants.{INPUT_LIMIT}
 use Rattle.dns_io.specs.declared.transfer.ReadError.{ReadError}
 use Rattle.dns_io.specs.declared.transfer.ReadError.TheVariants.{Fault, TooLong, OutOfMemory}
 
--- What is read is all that the source told of, and it is too long exactly where that passes `LIMIT`.
+-- What is read is all that the source told of, and it is too long exactly where that passes `INPUT_LIMIT`.
 abbrev pub ReadsAll : Result (Vec ℕ Global) ReadError → Option (List ℕ) → Type 0
-ReadsAll (Ok content) left = IfSome left (λ octets. content.items ≡ octets) × (length content.items ≤ LIMIT)
-ReadsAll (Err TooLong) left = IfSome left (λ octets. LIMIT < length octets)
+ReadsAll (Ok content) left = IfSome left (λ octets. content.items ≡ octets) × (length content.items ≤ INPUT_LIMIT)
+ReadsAll (Err TooLong) left = IfSome left (λ octets. INPUT_LIMIT < length octets)
 ReadsAll (Err Fault) left = Unit {0}
 ReadsAll (Err OutOfMemory) left = Unit {0}
 

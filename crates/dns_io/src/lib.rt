@@ -15,7 +15,7 @@ pub use memory::{MemSink, MemSource, PlainSource};
 pub use outside::{Failed, Sink, Source};
 pub use standard::{StdSink, StdSource};
 pub use status::Status;
-pub use transfer::{LIMIT, ReadError, read_all, write_all};
+pub use transfer::{INPUT_LIMIT, ReadError, read_all, write_all};
 pub use words::{
     four_words, is_skipped, is_text, number_below, octets_of, split_line, split_word, two_words,
     without_return,

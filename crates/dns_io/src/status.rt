@@ -10,7 +10,7 @@ pub enum Status {
     Usage,
     /// A read failed.
     ReadFault,
-    /// More than [`LIMIT`](crate::LIMIT) octets come before the end of the input.
+    /// More than [`INPUT_LIMIT`](crate::INPUT_LIMIT) octets come before the end of the input.
     TooLong,
     /// There was no memory.
     OutOfMemory,

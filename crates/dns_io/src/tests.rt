@@ -1,7 +1,7 @@
 //! Each public function once, at values that were written by hand.
 
 use crate::{
-    Failed, LIMIT, MemSink, MemSource, PlainSource, ReadError, Sink, Source, Status, StdSink,
+    Failed, INPUT_LIMIT, MemSink, MemSource, PlainSource, ReadError, Sink, Source, Status, StdSink,
     StdSource, four_words, is_skipped, is_text, number_below, octets_of, read_all, split_line,
     split_word, two_words, without_return, write_all,
 };
@@ -94,9 +94,9 @@ fn transfer(rt: HostRuntime) -> Result<(), Fail> {
     );
     let mut source = MemSource::new(vec![in alloc; 0; 3]?, Vec::from_array(alloc, [2])?, 1);
     assert_eq!(rt; read_all(alloc, &mut source).err(), Some(ReadError::Fault));
-    let mut source = PlainSource::new(vec![in alloc; b'\n'; LIMIT]?);
-    assert_eq!(rt; read_all(alloc, &mut source)?.len(), LIMIT);
-    let mut source = PlainSource::new(vec![in alloc; b'\n'; LIMIT + 1]?);
+    let mut source = PlainSource::new(vec![in alloc; b'\n'; INPUT_LIMIT]?);
+    assert_eq!(rt; read_all(alloc, &mut source)?.len(), INPUT_LIMIT);
+    let mut source = PlainSource::new(vec![in alloc; b'\n'; INPUT_LIMIT + 1]?);
     assert_eq!(rt;
         read_all(alloc, &mut source).err(),
         Some(ReadError::TooLong)

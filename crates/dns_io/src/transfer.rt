@@ -4,7 +4,7 @@ ghost use Rattle.std.specs.Prelude.{◌≡◌, ◌≢◌, ◌≤◌, ◌<◌, �
 ghost use Rattle.std.specs.Io.KnownBytes.{Appends, Consumes, IsAtEnd};
 ghost use Rattle.dns_io.specs.Counts.{Rose, RoseBy, raised, CountsFaults};
 ghost use Rattle.dns_io.specs.Transfer.{ReadsAll, AppendsPrefix, Moves};
-ghost use Rattle.dns_io.specs.declared.transfer.TheConstants.{LIMIT};
+ghost use Rattle.dns_io.specs.declared.transfer.TheConstants.{INPUT_LIMIT};
 ghost use Rattle.dns_io.specs.declared.transfer.ReadError.TheVariants.{OutOfMemory};
 
 use crate::{Failed, Sink, Source};
@@ -12,7 +12,7 @@ use std::alloc::{AllocError, Global};
 use thiserror::Error;
 
 /// The most octets that are read.
-pub const LIMIT: usize = 16_777_216;
+pub const INPUT_LIMIT: usize = 16_777_216;
 
 // How many octets are asked for at once.
 const PIECE: usize = 65_536;
@@ -23,7 +23,7 @@ pub enum ReadError {
     /// A read failed.
     #[error("a read failed")]
     Fault,
-    /// More than [`LIMIT`] octets come before the end.
+    /// More than [`INPUT_LIMIT`] octets come before the end.
     #[error("the input is too long")]
     TooLong,
     /// There was no memory.
@@ -39,7 +39,7 @@ impl From<AllocError> for ReadError {
     }
 }
 
-/// All the octets of a source, up to its end. At most `LIMIT` + 1 octets are ever taken.
+/// All the octets of a source, up to its end. At most `INPUT_LIMIT` + 1 octets are ever taken.
 pub fn read_all<S: Source>(alloc: Global, source: &mut S) -> Result<Vec<u8>, ReadError>
     // What the source tells decides, but for a failed read and for want of memory.
     ensures told { ReadsAll result (S.left source.old) }
@@ -50,14 +50,14 @@ pub fn read_all<S: Source>(alloc: Global, source: &mut S) -> Result<Vec<u8>, Rea
     // Each refusal has its cause, also where the source tells nothing.
     ensures fault { IsErrOf result ReadError.Fault → Rose (S.faults source.old) (S.faults source.new) }
     ensures too_long { IsErrOf result ReadError.TooLong
-        → RoseBy (LIMIT + 1) (S.taken source.old) (S.taken source.new) }
+        → RoseBy (INPUT_LIMIT + 1) (S.taken source.old) (S.taken source.new) }
     ensures later { S.faults source.old ≤ S.faults source.new }
-    ensures at_most { S.taken source.new ≤ raised (S.taken source.old) (LIMIT + 1) }
+    ensures at_most { S.taken source.new ≤ raised (S.taken source.old) (INPUT_LIMIT + 1) }
 {
     let mut content = Vec::new(alloc);
     let mut piece = empty_piece(alloc)?;
-    'pieces: while content.len() <= LIMIT {
-        let room = piece.len().min(LIMIT + 1 - content.len());
+    'pieces: while content.len() <= INPUT_LIMIT {
+        let room = piece.len().min(INPUT_LIMIT + 1 - content.len());
         if read_piece(source, &mut piece[..room], &mut content)? == 0 {
             return Ok(content);
         }

@@ -116,10 +116,8 @@ impl Name {
         requires inside { end ≤ length (octets decoder.old) }
         ensures found { IfOk result (λ n. NameAt (octets decoder.old) (place decoder.old) end n (place decoder.new)) }
         ensures only { (n : List (List ℕ)) (q : ℕ) → NameAt (octets decoder.old) (place decoder.old) end n q → (result ≡ Ok n) × (place decoder.new ≡ q) }
-        ensures exact { Reads (λ n. n) result (place decoder.old) (place decoder.new) (name_at (octets decoder.old) (place decoder.old) end) }
-        ensures octets { octets decoder.new ≡ octets decoder.old }
+        ensures exact { Reads (λ n. n) result decoder.old decoder.new (name_at (octets decoder.old) (place decoder.old) end) }
         ensures name { IfOk result IsName }
-        ensures forward { place decoder.old ≤ place decoder.new }
         ensures jumps { AreJumps (octets decoder.old) jumps.new }
         ensures inside { place decoder.new ≤ end }
     {
@@ -143,10 +141,8 @@ impl Name {
         requires inside { end ≤ length (octets decoder.old) }
         ensures found { IfOk result (λ n. NameAt (octets decoder.old) (place decoder.old) end n (place decoder.new)) }
         ensures only { (n : List (List ℕ)) (q : ℕ) → NameAt (octets decoder.old) (place decoder.old) end n q → (result ≡ Ok n) × (place decoder.new ≡ q) }
-        ensures exact { Reads (λ n. n) result (place decoder.old) (place decoder.new) (name_at (octets decoder.old) (place decoder.old) end) }
-        ensures octets { octets decoder.new ≡ octets decoder.old }
+        ensures exact { Reads (λ n. n) result decoder.old decoder.new (name_at (octets decoder.old) (place decoder.old) end) }
         ensures name { IfOk result IsName }
-        ensures forward { place decoder.old ≤ place decoder.new }
         ensures inside { place decoder.new ≤ end }
     {
         Name::read_with(decoder, end, &mut [])
@@ -160,10 +156,8 @@ impl Name {
     pub fn read(decoder: &mut BinDecoder<'_>) -> Result<Name, DecodeError>
         ensures found { IfOk result (λ n. NameAt (octets decoder.old) (place decoder.old) (length (octets decoder.old)) n (place decoder.new)) }
         ensures only { (n : List (List ℕ)) (q : ℕ) → NameAt (octets decoder.old) (place decoder.old) (length (octets decoder.old)) n q → (result ≡ Ok n) × (place decoder.new ≡ q) }
-        ensures exact { Reads (λ n. n) result (place decoder.old) (place decoder.new) (name_at (octets decoder.old) (place decoder.old) (length (octets decoder.old))) }
-        ensures octets { octets decoder.new ≡ octets decoder.old }
+        ensures exact { Reads (λ n. n) result decoder.old decoder.new (name_at (octets decoder.old) (place decoder.old) (length (octets decoder.old))) }
         ensures name { IfOk result IsName }
-        ensures forward { place decoder.old ≤ place decoder.new }
         ensures inside { place decoder.new ≤ length (octets decoder.new) }
     {
         let end = decoder.index() + decoder.len();

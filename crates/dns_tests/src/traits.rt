@@ -19,7 +19,7 @@ impl<'r> BinDecodable<'r> for Number {
     ghost use Rattle.std.specs.Int.{w16};
     ghost use Rattle.dns_wire.specs.Reading.{ReadsUnless, number_at};
 
-    ghost is_read = { λ m p result q. ReadsUnless (λ number. number.0) result p q (number_at w16 m p (length m)) };
+    ghost is_read = { λ old new result. ReadsUnless (λ number. number.0) result old new (number_at w16 (octets old) (place old) (length (octets old))) };
 
     fn read(_alloc: Global, decoder: &mut BinDecoder<'r>) -> Result<Self, DecodeError> {
         Ok(Number(decoder.read_u16()?))
@@ -31,7 +31,7 @@ impl<'r> RecordDataDecodable<'r> for Number {
     ghost use Rattle.std.specs.Int.{w16};
     ghost use Rattle.dns_wire.specs.Reading.{ReadsUnless, number_at};
 
-    ghost is_read = { λ length_given m p result q. ReadsUnless (λ number. number.0) result p q (number_at w16 m p (length m)) };
+    ghost is_read = { λ length_given old new result. ReadsUnless (λ number. number.0) result old new (number_at w16 (octets old) (place old) (length (octets old))) };
 
     fn read_data(
         _alloc: Global,

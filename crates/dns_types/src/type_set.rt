@@ -72,10 +72,8 @@ impl RecordTypeSet {
     ) -> Result<RecordTypeSet, DecodeError>
         requires ahead { place decoder.old ≤ end }
         requires inside { end ≤ length (octets decoder.old) }
-        ensures exact { ReadsUnless (λ set. set) result (place decoder.old) (place decoder.new) (types_at (octets decoder.old) (place decoder.old) end) }
+        ensures exact { ReadsUnless (λ set. set) result decoder.old decoder.new (types_at (octets decoder.old) (place decoder.old) end) }
         ensures bitmap { IfOk result (λ set. IsTrue (is_bitmap set)) }
-        ensures octets { octets decoder.new ≡ octets decoder.old }
-        ensures forward { place decoder.old ≤ place decoder.new }
         ensures inside { place decoder.new ≤ end }
     {
         let mut reader = *decoder;
@@ -160,7 +158,7 @@ impl<'r> RecordDataDecodable<'r> for RecordTypeSet {
     ghost use Rattle.dns_wire.specs.Reading.{ReadsUnless};
     ghost use Rattle.dns_types.specs.TypeSets.{type_set_at};
 
-    ghost is_read = { λ len m p result q. ReadsUnless (λ set. set) result p q (type_set_at m p len) };
+    ghost is_read = { λ len old new result. ReadsUnless (λ set. set) result old new (type_set_at (octets old) (place old) len) };
 
     /// Reads the set whose octets are the data.
     ///

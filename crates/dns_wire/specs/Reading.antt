@@ -84,17 +84,13 @@ abbrev pub GivesUnless : {X Y E : Type 0} → E → (X → Y) → Result X E →
 GivesUnless none view (Ok x) given = given ≡ Ok (view x)
 GivesUnless none view (Err e) given = (e ≡ none) ⊎ (given ≡ Err e)
 
--- The answer of a call that moved a decoder from the old place to the new one is what reading gives, a value and the next place or the
--- first fault. A fault leaves the place.
-abbrev pub Reads : {X Y : Type 0} → (X → Y) → Result X DecodeError → ℕ → ℕ → Result (Y × ℕ) DecodeError → Type 0
-Reads view (Ok x) old new given = given ≡ Ok (view x, new)
+-- The answer of a call that moved a decoder is what reading gives: a value and the place behind it, at or behind the old place of the
+-- same octets; or the first fault, and then the decoder is as it was.
+abbrev pub Reads : {X Y : Type 0} → (X → Y) → Result X DecodeError → BinDecoder → BinDecoder → Result (Y × ℕ) DecodeError → Type 0
+Reads view (Ok x) old new given = (given ≡ Ok (view x, place new)) × (octets new ≡ octets old) × (place old ≤ place new)
 Reads view (Err e) old new given = (given ≡ Err e) × (new ≡ old)
 
--- The fault is want of memory, which may come in place of any answer, or the one that reading meets.
-abbrev pub Fails : {Y : Type 0} → DecodeError → Result Y DecodeError → Type 0
-Fails e given = (e ≡ faults.OutOfMemory) ⊎ (given ≡ Err e)
-
--- the same as Reads of a call that takes memory
-abbrev pub ReadsUnless : {X Y : Type 0} → (X → Y) → Result X DecodeError → ℕ → ℕ → Result (Y × ℕ) DecodeError → Type 0
-ReadsUnless view (Ok x) old new given = given ≡ Ok (view x, new)
-ReadsUnless view (Err e) old new given = Fails e given × (new ≡ old)
+-- the same, but that want of memory may come in place of any answer
+abbrev pub ReadsUnless : {X Y : Type 0} → (X → Y) → Result X DecodeError → BinDecoder → BinDecoder → Result (Y × ℕ) DecodeError → Type 0
+ReadsUnless view (Ok x) old new given = (given ≡ Ok (view x, place new)) × (octets new ≡ octets old) × (place old ≤ place new)
+ReadsUnless view (Err e) old new given = ((e ≡ faults.OutOfMemory) ⊎ (given ≡ Err e)) × (new ≡ old)

@@ -76,9 +76,7 @@ impl<'a> BinDecoder<'a> {
     pub fn read_slice_within(&mut self, n: usize, end: usize) -> Result<&'a [u8], DecodeError>
         requires ahead { place self.old ≤ end }
         requires inside { end ≤ length (octets self.old) }
-        ensures exact { Reads (λ octets. octets.now) result (place self.old) (place self.new) (octets_at n (octets self.old) (place self.old) end) }
-        ensures octets { octets self.new ≡ octets self.old }
-        ensures forward { place self.old ≤ place self.new }
+        ensures exact { Reads (λ octets. octets.now) result self.old self.new (octets_at n (octets self.old) (place self.old) end) }
         ensures inside { place self.new ≤ end }
         ensures length { IfOk result (λ octets. length octets.now ≡ n) }
     {
@@ -99,9 +97,7 @@ impl<'a> BinDecoder<'a> {
     pub fn read_u8_within(&mut self, end: usize) -> Result<u8, DecodeError>
         requires ahead { place self.old ≤ end }
         requires inside { end ≤ length (octets self.old) }
-        ensures exact { Reads (λ n. n) result (place self.old) (place self.new) (number_at w8 (octets self.old) (place self.old) end) }
-        ensures octets { octets self.new ≡ octets self.old }
-        ensures forward { place self.old ≤ place self.new }
+        ensures exact { Reads (λ n. n) result self.old self.new (number_at w8 (octets self.old) (place self.old) end) }
         ensures inside { place self.new ≤ end }
     {
         let octets = self.read_slice_within(1, end)?;
@@ -117,9 +113,7 @@ impl<'a> BinDecoder<'a> {
     pub fn read_u16_within(&mut self, end: usize) -> Result<u16, DecodeError>
         requires ahead { place self.old ≤ end }
         requires inside { end ≤ length (octets self.old) }
-        ensures exact { Reads (λ n. n) result (place self.old) (place self.new) (number_at w16 (octets self.old) (place self.old) end) }
-        ensures octets { octets self.new ≡ octets self.old }
-        ensures forward { place self.old ≤ place self.new }
+        ensures exact { Reads (λ n. n) result self.old self.new (number_at w16 (octets self.old) (place self.old) end) }
         ensures inside { place self.new ≤ end }
     {
         let octets = self.read_slice_within(2, end)?;
@@ -135,9 +129,7 @@ impl<'a> BinDecoder<'a> {
     pub fn read_u32_within(&mut self, end: usize) -> Result<u32, DecodeError>
         requires ahead { place self.old ≤ end }
         requires inside { end ≤ length (octets self.old) }
-        ensures exact { Reads (λ n. n) result (place self.old) (place self.new) (number_at w32 (octets self.old) (place self.old) end) }
-        ensures octets { octets self.new ≡ octets self.old }
-        ensures forward { place self.old ≤ place self.new }
+        ensures exact { Reads (λ n. n) result self.old self.new (number_at w32 (octets self.old) (place self.old) end) }
         ensures inside { place self.new ≤ end }
     {
         let octets = self.read_slice_within(4, end)?;
@@ -153,9 +145,7 @@ impl<'a> BinDecoder<'a> {
     pub fn read_counted8_within(&mut self, end: usize) -> Result<&'a [u8], DecodeError>
         requires ahead { place self.old ≤ end }
         requires inside { end ≤ length (octets self.old) }
-        ensures exact { Reads (λ octets. octets.now) result (place self.old) (place self.new) (counted_at w8 (octets self.old) (place self.old) end) }
-        ensures octets { octets self.new ≡ octets self.old }
-        ensures forward { place self.old ≤ place self.new }
+        ensures exact { Reads (λ octets. octets.now) result self.old self.new (counted_at w8 (octets self.old) (place self.old) end) }
         ensures inside { place self.new ≤ end }
         ensures fits { IfOk result (λ octets. length octets.now < 2 ^ 8) }
     {
@@ -175,9 +165,7 @@ impl<'a> BinDecoder<'a> {
     pub fn read_counted16_within(&mut self, end: usize) -> Result<&'a [u8], DecodeError>
         requires ahead { place self.old ≤ end }
         requires inside { end ≤ length (octets self.old) }
-        ensures exact { Reads (λ octets. octets.now) result (place self.old) (place self.new) (counted_at w16 (octets self.old) (place self.old) end) }
-        ensures octets { octets self.new ≡ octets self.old }
-        ensures forward { place self.old ≤ place self.new }
+        ensures exact { Reads (λ octets. octets.now) result self.old self.new (counted_at w16 (octets self.old) (place self.old) end) }
         ensures inside { place self.new ≤ end }
         ensures fits { IfOk result (λ octets. length octets.now < 2 ^ 16) }
     {
@@ -197,9 +185,7 @@ impl<'a> BinDecoder<'a> {
     pub fn read_time_within(&mut self, end: usize) -> Result<u64, DecodeError>
         requires ahead { place self.old ≤ end }
         requires inside { end ≤ length (octets self.old) }
-        ensures exact { Reads (λ n. n) result (place self.old) (place self.new) (time_at (octets self.old) (place self.old) end) }
-        ensures octets { octets self.new ≡ octets self.old }
-        ensures forward { place self.old ≤ place self.new }
+        ensures exact { Reads (λ n. n) result self.old self.new (time_at (octets self.old) (place self.old) end) }
         ensures inside { place self.new ≤ end }
         ensures fits { IfOk result (λ time. time < 2 ^ 48) }
     {
@@ -215,9 +201,7 @@ impl<'a> BinDecoder<'a> {
     ///
     /// `InsufficientBytes` where fewer octets are left.
     pub fn read_u8(&mut self) -> Result<u8, DecodeError>
-        ensures exact { Reads (λ n. n) result (place self.old) (place self.new) (number_at w8 (octets self.old) (place self.old) (length (octets self.old))) }
-        ensures octets { octets self.new ≡ octets self.old }
-        ensures forward { place self.old ≤ place self.new }
+        ensures exact { Reads (λ n. n) result self.old self.new (number_at w8 (octets self.old) (place self.old) (length (octets self.old))) }
         ensures inside { place self.new ≤ length (octets self.new) }
     {
         self.read_u8_within(self.buffer.len())
@@ -229,9 +213,7 @@ impl<'a> BinDecoder<'a> {
     ///
     /// `InsufficientBytes` where fewer octets are left.
     pub fn read_u16(&mut self) -> Result<u16, DecodeError>
-        ensures exact { Reads (λ n. n) result (place self.old) (place self.new) (number_at w16 (octets self.old) (place self.old) (length (octets self.old))) }
-        ensures octets { octets self.new ≡ octets self.old }
-        ensures forward { place self.old ≤ place self.new }
+        ensures exact { Reads (λ n. n) result self.old self.new (number_at w16 (octets self.old) (place self.old) (length (octets self.old))) }
         ensures inside { place self.new ≤ length (octets self.new) }
     {
         self.read_u16_within(self.buffer.len())
@@ -243,9 +225,7 @@ impl<'a> BinDecoder<'a> {
     ///
     /// `InsufficientBytes` where fewer octets are left.
     pub fn read_u32(&mut self) -> Result<u32, DecodeError>
-        ensures exact { Reads (λ n. n) result (place self.old) (place self.new) (number_at w32 (octets self.old) (place self.old) (length (octets self.old))) }
-        ensures octets { octets self.new ≡ octets self.old }
-        ensures forward { place self.old ≤ place self.new }
+        ensures exact { Reads (λ n. n) result self.old self.new (number_at w32 (octets self.old) (place self.old) (length (octets self.old))) }
         ensures inside { place self.new ≤ length (octets self.new) }
     {
         self.read_u32_within(self.buffer.len())
@@ -257,9 +237,7 @@ impl<'a> BinDecoder<'a> {
     ///
     /// `InsufficientBytes` where fewer octets are left.
     pub fn read_slice(&mut self, n: usize) -> Result<&'a [u8], DecodeError>
-        ensures exact { Reads (λ octets. octets.now) result (place self.old) (place self.new) (octets_at n (octets self.old) (place self.old) (length (octets self.old))) }
-        ensures octets { octets self.new ≡ octets self.old }
-        ensures forward { place self.old ≤ place self.new }
+        ensures exact { Reads (λ octets. octets.now) result self.old self.new (octets_at n (octets self.old) (place self.old) (length (octets self.old))) }
         ensures inside { place self.new ≤ length (octets self.new) }
     {
         self.read_slice_within(n, self.buffer.len())

@@ -1,5 +1,5 @@
 //! What is written and read as octets.
-ghost use Rattle.std.specs.Prelude.{◌≡◌};
+ghost use Rattle.std.specs.Prelude.{◌≡◌, ◌≤◌, OnErr};
 ghost use Rattle.dns_wire.specs.Writing.{Writes};
 ghost use Rattle.dns_wire.specs.Reading.{octets, place};
 
@@ -28,31 +28,35 @@ pub trait BinEncodable {
 
 /// A value that is read from octets.
 pub trait BinDecodable<'r>: Sized {
-    ghost use Rattle.std.specs.Prelude.{ℕ, List, Result};
+    ghost use Rattle.std.specs.Prelude.{Result};
+    ghost use Rattle.dns_wire.specs.declared.decoder.BinDecoder.{BinDecoder};
     ghost use Rattle.dns_wire.specs.declared.error.DecodeError.{DecodeError};
 
-    // what was answered at a place of the octets, and the place behind the value
-    ghost is_read: { List ℕ → ℕ → Result Self DecodeError → ℕ → Type 0 };
+    // what a call answered that moved the first decoder to where the second one is
+    ghost is_read: { BinDecoder → BinDecoder → Result Self DecodeError → Type 0 };
 
-    /// Reads the value at the decoder's place. A refused call leaves the place.
+    /// Reads the value at the decoder's place. A refused call leaves the decoder as it was.
     ///
     /// # Errors
     ///
     /// The first fault, or `OutOfMemory`.
     fn read(alloc: Global, decoder: &mut BinDecoder<'r>) -> Result<Self, DecodeError>
-        ensures read { is_read (octets decoder.old) (place decoder.old) result (place decoder.new) }
-        ensures octets { octets decoder.new ≡ octets decoder.old };
+        ensures read { is_read decoder.old decoder.new result }
+        ensures octets { octets decoder.new ≡ octets decoder.old }
+        ensures forward { place decoder.old ≤ place decoder.new }
+        ensures refused { OnErr result (decoder.new ≡ decoder.old) };
 }
 
 /// A value that is read from the data of a record.
 pub trait RecordDataDecodable<'r>: Sized {
-    ghost use Rattle.std.specs.Prelude.{ℕ, List, Result};
+    ghost use Rattle.std.specs.Prelude.{ℕ, Result};
+    ghost use Rattle.dns_wire.specs.declared.decoder.BinDecoder.{BinDecoder};
     ghost use Rattle.dns_wire.specs.declared.error.DecodeError.{DecodeError};
 
-    // what was answered of data of this length at a place of the octets, and the place behind them
-    ghost is_read: { ℕ → List ℕ → ℕ → Result Self DecodeError → ℕ → Type 0 };
+    // what a call answered of data of this length, that moved the first decoder to where the second one is
+    ghost is_read: { ℕ → BinDecoder → BinDecoder → Result Self DecodeError → Type 0 };
 
-    /// Reads the data of `length` octets at the decoder's place. A refused call leaves the place.
+    /// Reads the data of `length` octets at the decoder's place. A refused call leaves the decoder as it was.
     ///
     /// # Errors
     ///
@@ -62,6 +66,8 @@ pub trait RecordDataDecodable<'r>: Sized {
         decoder: &mut BinDecoder<'r>,
         length: u16,
     ) -> Result<Self, DecodeError>
-        ensures read { is_read length (octets decoder.old) (place decoder.old) result (place decoder.new) }
-        ensures octets { octets decoder.new ≡ octets decoder.old };
+        ensures read { is_read length decoder.old decoder.new result }
+        ensures octets { octets decoder.new ≡ octets decoder.old }
+        ensures forward { place decoder.old ≤ place decoder.new }
+        ensures refused { OnErr result (decoder.new ≡ decoder.old) };
 }

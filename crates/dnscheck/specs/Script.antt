@@ -37,8 +37,8 @@ abbrev pub words_behind : List ℕ → List ℕ → Option (List (List ℕ))
 words_behind keyword line = if list_all is_text line then behind keyword (words line) else None
 
 -- the algorithm of a name of RFC 8945 6
-abbrev pub algorithm_of : List ℕ → Option HmacHash
-algorithm_of word = if bytes_eq word (codes "hmac-sha256") then Some Sha256 else None
+abbrev pub hash_named : List ℕ → Option HmacHash
+hash_named word = if bytes_eq word (codes "hmac-sha256") then Some Sha256 else None
 
 -- the name that a word spells
 abbrev pub spelled_name : List ℕ → Option (List (List ℕ))
@@ -49,7 +49,7 @@ abbrev pub key_line : List ℕ → Option Signer
 key_line line = do
   others ← words_behind (codes "key") line
   w ← four_words others
-  algorithm ← algorithm_of w.0
+  algorithm ← hash_named w.0
   name ← spelled_name w.1
   fudge ← number_below (2 ^ 16) w.2
   key ← octets_of w.3

@@ -7,7 +7,7 @@ use Rattle.std.specs.declared.string.String.{String}
 use Rattle.std.specs.Io.KnownBytes.{Appends, Consumes, IsAtEnd}
 use Rattle.dns_io.specs.declared.status.Status.{Status}
 use Rattle.dns_io.specs.declared.status.Status.TheVariants.{Usage, ReadFault, TooLong, OutOfMemory, WriteFault, ScriptFault, Refused, Accepted}
-use Rattle.dns_io.specs.declared.transfer.TheConstants.{LIMIT}
+use Rattle.dns_io.specs.declared.transfer.TheConstants.{INPUT_LIMIT}
 use Rattle.dns_io.specs.Transfer.{AppendsPrefix}
 use Rattle.sec_tsig.specs.declared.first_set.FirstSet.{FirstSet}
 use Rattle.sec_tsig.specs.declared.verifier.FirstError.{FirstError}
@@ -55,12 +55,12 @@ IsCheck (word ∷ other ∷ words) = ⊥
 abbrev pub IsStatusFor : Status → List ℕ → Type 0
 IsStatusFor Usage octets = Unit {0}
 IsStatusFor ReadFault octets = Unit {0}
-IsStatusFor TooLong octets = LIMIT < length octets
+IsStatusFor TooLong octets = INPUT_LIMIT < length octets
 IsStatusFor OutOfMemory octets = Unit {0}
-IsStatusFor WriteFault octets = length octets ≤ LIMIT
-IsStatusFor ScriptFault octets = (length octets ≤ LIMIT) × (session_status octets ≡ ScriptFault)
-IsStatusFor Refused octets = (length octets ≤ LIMIT) × (session_status octets ≡ Refused)
-IsStatusFor Accepted octets = (length octets ≤ LIMIT) × (session_status octets ≡ Accepted)
+IsStatusFor WriteFault octets = length octets ≤ INPUT_LIMIT
+IsStatusFor ScriptFault octets = (length octets ≤ INPUT_LIMIT) × (session_status octets ≡ ScriptFault)
+IsStatusFor Refused octets = (length octets ≤ INPUT_LIMIT) × (session_status octets ≡ Refused)
+IsStatusFor Accepted octets = (length octets ≤ INPUT_LIMIT) × (session_status octets ≡ Accepted)
 
 -- the statuses under which nothing is written
 abbrev pub WritesNothing : Status → Type 0

@@ -5,7 +5,7 @@ ghost use Rattle.dns_io.specs.Counts.{raised, Rose, RoseBy};
 ghost use Rattle.dnscheck.specs.Session.{IsCheck, IsStatusFor, WritesNothing, WritesText, AppendsText, SessionWritten, session};
 
 use crate::session::session;
-use dns_io::{LIMIT, ReadError, Sink, Source, Status, read_all, write_all};
+use dns_io::{INPUT_LIMIT, ReadError, Sink, Source, Status, read_all, write_all};
 use std::alloc::Global;
 
 /// Whether the words are the one command.
@@ -33,9 +33,9 @@ pub fn run<I: Source, O: Sink>(
     ensures usage_reads_nothing { result ≡ Status.Usage → source.new ≡ source.old }
     ensures read_fault { result ≡ Status.ReadFault → Rose (I.faults source.old) (I.faults source.new) }
     ensures too_long { result ≡ Status.TooLong
-        → RoseBy (LIMIT + 1) (I.taken source.old) (I.taken source.new) }
+        → RoseBy (INPUT_LIMIT + 1) (I.taken source.old) (I.taken source.new) }
     ensures write_fault { result ≡ Status.WriteFault → Rose (O.faults sink.old) (O.faults sink.new) }
-    ensures taken_at_most { I.taken source.new ≤ raised (I.taken source.old) (LIMIT + 1) }
+    ensures taken_at_most { I.taken source.new ≤ raised (I.taken source.old) (INPUT_LIMIT + 1) }
     ensures nothing_written { WritesNothing result → sink.new ≡ sink.old }
 
     // Over every source and sink: a text is the session of the octets that were read, which were all there were.

@@ -11,7 +11,7 @@ use Rattle.std.proofs.lemmas.Nat.{or_lt}
 use Rattle.std.proofs.lemmas.Nat.Bits.{bit_at-zero, bit_at_set_same, bit_at_set_other}
 use Rattle.sec_codes.specs.declared.algorithm.Algorithm.{Algorithm}
 use Rattle.sec_codes.specs.declared.algorithm.Algorithm.TheVariants.{RSAMD5, DSA, RSASHA1, RSASHA1NSEC3SHA1, RSASHA256, RSASHA512, ECDSAP256SHA256, ECDSAP384SHA384, ED25519, Unknown}
-use Rattle.sec_codes.specs.Algorithms.{number, supported, algorithm_of}
+use Rattle.sec_codes.specs.Algorithms.{number, supported, algorithm_numbered}
 use Rattle.sec_codes.specs.AlgorithmSets.{seven, place, has, members, IsSetOf, Adds}
 
 -- what a place says of its algorithm
@@ -92,8 +92,8 @@ pub set_of_next : (s t : ℕ) (xs : List Algorithm) (i : ℕ) → i < length xs 
 set_of_next s t xs i h old add = let P : List Algorithm → Type 0 = λ ys. IsSetOf t ys in subst P (sym (take_more xs i RSAMD5 h)) (set_of_more s t (take i xs) (get_or xs i RSAMD5) old add)
 
 -- the same of a list of numbers
-pub set_of_next_number : (s t : ℕ) (ns : List ℕ) (i : ℕ) → i < length ns → IsSetOf s (map algorithm_of (take i ns)) → Adds s t (algorithm_of (get_or ns i 0)) → IsSetOf t (map algorithm_of (take (i + 1) ns))
-set_of_next_number s t ns i h old add = let P : List Algorithm → Type 0 = λ ys. IsSetOf t ys in subst P (sym (ap (map algorithm_of) (take_more ns i 0 h) ∙ map-append algorithm_of (take i ns) (get_or ns i 0 ∷ []))) (set_of_more s t (map algorithm_of (take i ns)) (algorithm_of (get_or ns i 0)) old add)
+pub set_of_next_number : (s t : ℕ) (ns : List ℕ) (i : ℕ) → i < length ns → IsSetOf s (map algorithm_numbered (take i ns)) → Adds s t (algorithm_numbered (get_or ns i 0)) → IsSetOf t (map algorithm_numbered (take (i + 1) ns))
+set_of_next_number s t ns i h old add = let P : List Algorithm → Type 0 = λ ys. IsSetOf t ys in subst P (sym (ap (map algorithm_numbered) (take_more ns i 0 h) ∙ map-append algorithm_numbered (take i ns) (get_or ns i 0 ∷ []))) (set_of_more s t (map algorithm_numbered (take i ns)) (algorithm_numbered (get_or ns i 0)) old add)
 
 -- the numbers of the members, as far as a list is gone through
 pub number_kept : (s : ℕ) (xs : List Algorithm) (i count : ℕ) (numbers : List ℕ) → i < length xs → count < length numbers → take count numbers ≡ map number (filter (has s) (take i xs)) → has s (get_or xs i RSAMD5) ≡ true → take (count + 1) (set numbers count (number (get_or xs i RSAMD5))) ≡ map number (filter (has s) (take (i + 1) xs))

@@ -48,14 +48,14 @@ numbered [] n = Unknown n
 numbered (a ∷ rest) n = if number a == n then a else numbered rest n
 
 -- the algorithm of a number
-abbrev pub algorithm_of : ℕ → Algorithm
-algorithm_of = numbered named
+abbrev pub algorithm_numbered : ℕ → Algorithm
+algorithm_numbered = numbered named
 
 -- the algorithm whose number is the octet at a place
 abbrev pub algorithm_at : List ℕ → ℕ → Result (Algorithm × ℕ) DecodeError
 algorithm_at m p = do
   n ← number_at w8 m p (length m)
-  Ok (algorithm_of n.0, n.1)
+  Ok (algorithm_numbered n.0, n.1)
 
 -- whether an algorithm is one that is not known
 abbrev pub is_unknown : Algorithm → Bool

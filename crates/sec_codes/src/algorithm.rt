@@ -31,11 +31,11 @@ pub enum Algorithm {
 }
 
 impl Algorithm {
-    ghost use Rattle.sec_codes.specs.Algorithms.{number, text, hash_len, supported, algorithm_of};
+    ghost use Rattle.sec_codes.specs.Algorithms.{number, text, hash_len, supported, algorithm_numbered};
 
     /// The algorithm of a number.
     pub fn from_u8(value: u8) -> Algorithm
-        ensures algorithm { result ≡ algorithm_of value }
+        ensures algorithm { result ≡ algorithm_numbered value }
         ensures number { number result ≡ value }
     {
         match value {
@@ -161,7 +161,7 @@ impl<'r> BinDecodable<'r> for Algorithm {
     ghost use Rattle.dns_wire.specs.Reading.{Reads};
     ghost use Rattle.sec_codes.specs.Algorithms.{algorithm_at};
 
-    ghost is_read = { λ m p result q. Reads (λ a. a) result p q (algorithm_at m p) };
+    ghost is_read = { λ old new result. Reads (λ a. a) result old new (algorithm_at (octets old) (place old)) };
 
     fn read(_alloc: Global, decoder: &mut BinDecoder<'r>) -> Result<Algorithm, DecodeError> {
         Ok(Algorithm::from_u8(decoder.read_u8()?))

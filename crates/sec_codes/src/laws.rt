@@ -2,7 +2,7 @@
 ghost use Rattle.std.specs.Prelude.{◌≡◌, ◌↔◌, ℕ, List, IsTrue, Contains, Some};
 ghost use Rattle.std.specs.Ordering.{nat_cmp, bool_cmp, ordering_then};
 ghost use Rattle.dns_wire.specs.Octets.{AreOctets};
-ghost use Rattle.sec_codes.specs.Algorithms.{number, algorithm_of, is_unknown};
+ghost use Rattle.sec_codes.specs.Algorithms.{number, algorithm_numbered, is_unknown};
 ghost use Rattle.sec_codes.specs.AlgorithmSets.{has, members};
 ghost use Rattle.sec_codes.specs.KeyForms.{rsa_parts, IsRsa};
 ghost use Rattle.sec_codes.specs.Proofs.{rank};
@@ -12,8 +12,8 @@ use crate::proof::Proof;
 
 /// A number is that of its algorithm, and an algorithm has the number of the one that its number gives.
 pub fn numbers_are_kept()
-    ensures number { (n : ℕ) → number (algorithm_of n) ≡ n }
-    ensures algorithm { (a : _) → number (algorithm_of (number a)) ≡ number a }
+    ensures number { (n : ℕ) → number (algorithm_numbered n) ≡ n }
+    ensures algorithm { (a : _) → number (algorithm_numbered (number a)) ≡ number a }
 {}
 
 /// Algorithms are ordered by their numbers, the unknown ones last.

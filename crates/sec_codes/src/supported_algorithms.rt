@@ -1,7 +1,7 @@
 //! Sets of the algorithms that are taken (RFC 6975 2).
 ghost use Rattle.std.specs.Prelude.{◌≡◌, ◌↔◌, IsTrue, length, map, IfOk, [], ◌∷◌, Ok, Some};
 ghost use Rattle.std.specs.Iterator.{YieldsFirst, item_count};
-ghost use Rattle.sec_codes.specs.Algorithms.{number, algorithm_of};
+ghost use Rattle.sec_codes.specs.Algorithms.{number, algorithm_numbered};
 ghost use Rattle.sec_codes.specs.AlgorithmSets.{seven, has, members, place, set_text, IsSetOf, Adds};
 
 use crate::algorithm::Algorithm;
@@ -196,7 +196,7 @@ impl fmt::Display for SupportedAlgorithms {
 
 /// The set of the numbers that are those of the seven.
 impl From<&[u8]> for SupportedAlgorithms {
-    ghost from_gives = { λ numbers s. IsSetOf s (map algorithm_of numbers.now) };
+    ghost from_gives = { λ numbers s. IsSetOf s (map algorithm_numbered numbers.now) };
 
     fn from(numbers: &[u8]) -> SupportedAlgorithms {
         let mut supported = SupportedAlgorithms::new();

@@ -16,12 +16,12 @@ use Rattle.dns_text.specs.HexText.{upper_hex}
 use Rattle.dns_wire.specs.Octets.{AreOctets}
 use Rattle.dns_io.specs.Words.{is_blank, words, number_below}
 use Rattle.sec_codes.specs.declared.algorithm.Algorithm.{Algorithm}
-use Rattle.sec_codes.specs.Algorithms.{algorithm_of, number}
+use Rattle.sec_codes.specs.Algorithms.{algorithm_numbered, number}
 use Rattle.sec_digest.specs.Digests.{digest_type, digest_number}
 use Rattle.sec_keydata.specs.declared.token_error.TokenError.{TokenError}
 use Rattle.sec_keydata.specs.declared.token_error.TokenError.TheVariants.{Missing, BadNumber, BadHex}
 use Rattle.sec_keydata.specs.declared.token_error.TokenField.TheVariants.{Digest}
-use Rattle.sec_keydata.specs.Digests.{DsData, DsIsNamed, ds_text}
+use Rattle.sec_keydata.specs.DsData.{DsData, DsIsByNumber, ds_text}
 use Rattle.sec_keydata.specs.Tokens.{number_in, mnemonics, algorithm_named, algorithm_in, hex_octets, ds_in, token_ds}
 use Rattle.sec_keydata.proofs.TextsBack.{at_place, NoBlank, no_blanks, word_before, word_alone, digit_is, decimal_no_blank, decimal_some, number_below-decimal, number_back}
 
@@ -60,12 +60,12 @@ unnamed : (digits : List ℕ) → 0 < length digits → AllDigits 10 digits → 
 unnamed [] some all = absurd (omega (arith, some))
 unnamed (c ∷ digits) some all = unnamed_in mnemonics c digits (digit_is c all.0) letters
 
-algorithm_back : (n : ℕ) → n < 2 ^ 8 → algorithm_in (decimal n) ≡ Ok (algorithm_of n)
+algorithm_back : (n : ℕ) → n < 2 ^ 8 → algorithm_in (decimal n) ≡ Ok (algorithm_numbered n)
 algorithm_back n few =
     let numeral = decimal_is_IsNumeral n (omega (arith, few)) in
     let no_name : algorithm_named mnemonics (decimal n) ≡ None = unnamed (decimal n) numeral.0.0 numeral.0.1 in
     let value : number_below (2 ^ 8) (decimal n) ≡ Some n = number_below-decimal (2 ^ 8) n few (omega (arith, few)) in
-    λ i. ok_or (option_or (no_name i) (option_map algorithm_of (value i))) BadNumber
+    λ i. ok_or (option_or (no_name i) (option_map algorithm_numbered (value i))) BadNumber
 
 -- ---- digests
 
@@ -94,11 +94,11 @@ hex_back octets are =
 
 -- ---- DS
 
-ds_of : (x y z text : List ℕ) (tag n kind : ℕ) (octets : List ℕ) → number_in (2 ^ 16) x ≡ Ok tag → algorithm_in y ≡ Ok (algorithm_of n) → number_in (2 ^ 8) z ≡ Ok kind → hex_octets text ≡ Ok octets
-    → ds_in (x ∷ y ∷ z ∷ text ∷ []) ≡ Ok (record { key_tag = tag; algorithm = algorithm_of n; digest_type = digest_type kind; digest = octets })
+ds_of : (x y z text : List ℕ) (tag n kind : ℕ) (octets : List ℕ) → number_in (2 ^ 16) x ≡ Ok tag → algorithm_in y ≡ Ok (algorithm_numbered n) → number_in (2 ^ 8) z ≡ Ok kind → hex_octets text ≡ Ok octets
+    → ds_in (x ∷ y ∷ z ∷ text ∷ []) ≡ Ok (record { key_tag = tag; algorithm = algorithm_numbered n; digest_type = digest_type kind; digest = octets })
 ds_of x y z text tag n kind octets a b c d = rw (a, b, c, append-nil text, d) refl
 
-ds_without_digest : (x y z : List ℕ) (tag n kind : ℕ) → number_in (2 ^ 16) x ≡ Ok tag → algorithm_in y ≡ Ok (algorithm_of n) → number_in (2 ^ 8) z ≡ Ok kind → ds_in (x ∷ y ∷ z ∷ []) ≡ Err (Missing Digest)
+ds_without_digest : (x y z : List ℕ) (tag n kind : ℕ) → number_in (2 ^ 16) x ≡ Ok tag → algorithm_in y ≡ Ok (algorithm_numbered n) → number_in (2 ^ 8) z ≡ Ok kind → ds_in (x ∷ y ∷ z ∷ []) ≡ Err (Missing Digest)
 ds_without_digest x y z tag n kind a b c = rw (a, b, c) refl
 
 module _ (ds : DsData) (small : ds.key_tag < 2 ^ 16) (few : number ds.algorithm < 2 ^ 8) (fewer : digest_number ds.digest_type < 2 ^ 8) where
@@ -116,7 +116,7 @@ module _ (ds : DsData) (small : ds.key_tag < 2 ^ 16) (few : number ds.algorithm 
   kind_back : number_in (2 ^ 8) (decimal (digest_number ds.digest_type)) ≡ Ok (digest_number ds.digest_type)
   kind_back = number_back (2 ^ 8) (digest_number ds.digest_type) fewer (omega (arith, fewer))
 
-  pub digest_text_back : DsIsNamed ds → AreOctets ds.digest → 0 < length ds.digest → token_ds (ds_text ds) ≡ Ok ds
+  pub digest_text_back : DsIsByNumber ds → AreOctets ds.digest → 0 < length ds.digest → token_ds (ds_text ds) ≡ Ok ds
   digest_text_back named are some =
       let text : List ℕ = upper_hex ds.digest in
       let alone : words text ≡ text ∷ [] = word_alone text (hex_no_blank ds.digest) (omega (arith, some, length-upper_hex ds.digest)) in

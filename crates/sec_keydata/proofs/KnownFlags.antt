@@ -7,7 +7,7 @@ use Rattle.std.proofs.lemmas.Nat.Bits.{bit_at_and, bit_at-zero}
 use Rattle.dns_wire.specs.declared.error.DecodeError.{DecodeError}
 use Rattle.dns_wire.specs.declared.error.DecodeError.TheVariants.{KeyFlagsReserved, ExtendedKeyFlagsUnsupported}
 use Rattle.dns_grammar.specs.Fields.{Num}
-use Rattle.dns_grammar.specs.KeyRows.{key_flags_fault}
+use Rattle.sec_keydata.specs.KeyRows.{key_flags_fault}
 
 abbrev HasSome : Option DecodeError → Type 0
 HasSome (Some _) = Unit {0}

@@ -3,7 +3,7 @@ use Rattle.std.proofs.Common.{◌≡◌, ◌+◌, false, [], length, Ok, Err, co
 use Rattle.std.specs.Result.{result_unwrap_or}
 use Rattle.dns_wire.specs.Reading.{◌>>=◌}
 use Rattle.dns_grammar.specs.Fields.{fields_octets}
-use Rattle.dns_grammar.specs.KeyRows.{dnskey_row}
+use Rattle.sec_keydata.specs.KeyRows.{dnskey_row}
 use Rattle.sec_keydata.specs.declared.key_data_error.KeyDataError.TheVariants.{DataTooLong}
 use Rattle.sec_keydata.specs.DnsKeys.{DnsKeyData, dnskey_values}
 use Rattle.sec_keydata.specs.KeyTags.{dnskey_octets, dnskey_tag, key_tag}

@@ -18,11 +18,11 @@ use Rattle.base64.proofs.EngineFacts.{decode_of-encode_of}
 use Rattle.dns_wire.specs.Octets.{AreOctets}
 use Rattle.dns_io.specs.Words.{is_blank, words, number_below}
 use Rattle.dns_io.proofs.Cuts.{before_yes, before_no, after_yes, after_no, words-cut}
-use Rattle.sec_codes.specs.Algorithms.{algorithm_of, number}
+use Rattle.sec_codes.specs.Algorithms.{algorithm_numbered, number}
 use Rattle.sec_keydata.specs.declared.token_error.TokenError.{TokenError}
 use Rattle.sec_keydata.specs.declared.token_error.TokenError.TheVariants.{Missing, BadNumber}
 use Rattle.sec_keydata.specs.declared.token_error.TokenField.TheVariants.{PublicKey}
-use Rattle.sec_keydata.specs.DnsKeys.{DnsKeyData, DnsKeyIsNamed, dnskey_text}
+use Rattle.sec_keydata.specs.DnsKeys.{DnsKeyData, DnsKeyIsByNumber, dnskey_text}
 use Rattle.sec_keydata.specs.Tokens.{number_in, base64_octets, dnskey_in, token_dnskey}
 
 -- what holds of each element, and of the one that stands for none, holds at each place
@@ -160,7 +160,7 @@ base64_back octets are =
 -- ---- DNSKEY
 
 dnskey_of : (x y text : List ℕ) (f n : ℕ) (octets : List ℕ) → number_in (2 ^ 16) x ≡ Ok f → number_in (2 ^ 8) y ≡ Ok n → base64_octets text ≡ Ok octets
-    → dnskey_in (x ∷ codes "3" ∷ y ∷ text ∷ []) ≡ Ok (record { flags = f; public_key = record { octets = octets; algorithm = algorithm_of n } })
+    → dnskey_in (x ∷ codes "3" ∷ y ∷ text ∷ []) ≡ Ok (record { flags = f; public_key = record { octets = octets; algorithm = algorithm_numbered n } })
 dnskey_of x y text f n octets flags algorithm key = rw (flags, algorithm, append-nil text, key) refl
 
 dnskey_without_key : (x y : List ℕ) (f n : ℕ) → number_in (2 ^ 16) x ≡ Ok f → number_in (2 ^ 8) y ≡ Ok n → dnskey_in (x ∷ codes "3" ∷ y ∷ []) ≡ Err (Missing PublicKey)
@@ -179,7 +179,7 @@ module _ (key : DnsKeyData) (small : key.flags < 2 ^ 16) (few : number key.publi
   algorithm_back : number_in (2 ^ 8) (decimal (number key.public_key.algorithm)) ≡ Ok (number key.public_key.algorithm)
   algorithm_back = number_back (2 ^ 8) (number key.public_key.algorithm) few (omega (arith, few))
 
-  pub text_back : DnsKeyIsNamed key → AreOctets key.public_key.octets → 0 < length key.public_key.octets → token_dnskey (dnskey_text key) ≡ Ok key
+  pub text_back : DnsKeyIsByNumber key → AreOctets key.public_key.octets → 0 < length key.public_key.octets → token_dnskey (dnskey_text key) ≡ Ok key
   text_back named are some =
       let text : List ℕ = encode_of standard key.public_key.octets in
       let alone : words text ≡ text ∷ [] = word_alone text (base64_no_blank key.public_key.octets) (base64_some key.public_key.octets some) in

@@ -1,13 +1,13 @@
 -- The fields of data tell the data.
 use Rattle.std.proofs.Common.{◌≡◌, ℕ, List, [], ◌∷◌, ap, sym, ◌∙◌}
 use Rattle.dns_grammar.specs.Fields.{Value, Num, Str}
-use Rattle.sec_codes.specs.Algorithms.{algorithm_of}
+use Rattle.sec_codes.specs.Algorithms.{algorithm_numbered}
 use Rattle.sec_digest.specs.Digests.{digest_type}
 use Rattle.sec_keydata.specs.OptionalAlgorithms.{optional_algorithm}
 use Rattle.sec_keydata.specs.KeyUses.{protocol_of}
-use Rattle.sec_keydata.specs.DnsKeys.{DnsKeyData, CdnsKeyData, DnsKeyIsNamed, CdnsKeyIsNamed, dnskey_values, cdnskey_values}
-use Rattle.sec_keydata.specs.Digests.{DsData, CdsData, DsIsNamed, CdsIsNamed, ds_values, cds_values}
-use Rattle.sec_keydata.specs.KeyData.{KeyData, KeyIsNamed, key_values}
+use Rattle.sec_keydata.specs.DnsKeys.{DnsKeyData, CdnsKeyData, DnsKeyIsByNumber, CdnsKeyIsByNumber, dnskey_values, cdnskey_values}
+use Rattle.sec_keydata.specs.DsData.{DsData, CdsData, DsIsByNumber, CdsIsByNumber, ds_values, cds_values}
+use Rattle.sec_keydata.specs.KeyData.{KeyData, KeyIsByNumber, key_values}
 
 -- the number that a value holds
 num : Value → ℕ
@@ -36,16 +36,16 @@ last : List Value → List ℕ
 last (_ ∷ _ ∷ _ ∷ v ∷ _) = str v
 last _ = []
 
-pub ds_told : (x y : DsData) → DsIsNamed x → DsIsNamed y → ds_values x ≡ ds_values y → x ≡ y
+pub ds_told : (x y : DsData) → DsIsByNumber x → DsIsByNumber y → ds_values x ≡ ds_values y → x ≡ y
 unfolding first num second third last str
 ds_told x y a b same =
     let tag : x.key_tag ≡ y.key_tag = ap first same in
-    let algorithm : x.algorithm ≡ y.algorithm = a.algorithm ∙ (ap (λ vs. algorithm_of (second vs)) same ∙ sym b.algorithm) in
+    let algorithm : x.algorithm ≡ y.algorithm = a.algorithm ∙ (ap (λ vs. algorithm_numbered (second vs)) same ∙ sym b.algorithm) in
     let kind : x.digest_type ≡ y.digest_type = a.digest_type ∙ (ap (λ vs. digest_type (third vs)) same ∙ sym b.digest_type) in
     let digest : x.digest ≡ y.digest = ap last same in
     λ i. record { key_tag = tag i; algorithm = algorithm i; digest_type = kind i; digest = digest i }
 
-pub cds_told : (x y : CdsData) → CdsIsNamed x → CdsIsNamed y → cds_values x ≡ cds_values y → x ≡ y
+pub cds_told : (x y : CdsData) → CdsIsByNumber x → CdsIsByNumber y → cds_values x ≡ cds_values y → x ≡ y
 unfolding first num second third last str
 cds_told x y a b same =
     let tag : x.key_tag ≡ y.key_tag = ap first same in
@@ -54,24 +54,24 @@ cds_told x y a b same =
     let digest : x.digest ≡ y.digest = ap last same in
     λ i. record { key_tag = tag i; algorithm = algorithm i; digest_type = kind i; digest = digest i }
 
-pub key_told : (x y : KeyData) → KeyIsNamed x → KeyIsNamed y → key_values x ≡ key_values y → x ≡ y
+pub key_told : (x y : KeyData) → KeyIsByNumber x → KeyIsByNumber y → key_values x ≡ key_values y → x ≡ y
 unfolding first num second third last str
 key_told x y a b same =
     let flags : x.flags ≡ y.flags = ap first same in
     let protocol : x.protocol ≡ y.protocol = a.protocol ∙ (ap (λ vs. protocol_of (second vs)) same ∙ sym b.protocol) in
-    let algorithm : x.algorithm ≡ y.algorithm = a.algorithm ∙ (ap (λ vs. algorithm_of (third vs)) same ∙ sym b.algorithm) in
+    let algorithm : x.algorithm ≡ y.algorithm = a.algorithm ∙ (ap (λ vs. algorithm_numbered (third vs)) same ∙ sym b.algorithm) in
     let octets : x.public_key ≡ y.public_key = ap last same in
     λ i. record { flags = flags i; protocol = protocol i; algorithm = algorithm i; public_key = octets i }
 
-pub dnskey_told : (x y : DnsKeyData) → DnsKeyIsNamed x → DnsKeyIsNamed y → dnskey_values x ≡ dnskey_values y → x ≡ y
+pub dnskey_told : (x y : DnsKeyData) → DnsKeyIsByNumber x → DnsKeyIsByNumber y → dnskey_values x ≡ dnskey_values y → x ≡ y
 unfolding first num second third last str
 dnskey_told x y a b same =
     let flags : x.flags ≡ y.flags = ap first same in
-    let algorithm : x.public_key.algorithm ≡ y.public_key.algorithm = a ∙ (ap (λ vs. algorithm_of (third vs)) same ∙ sym b) in
+    let algorithm : x.public_key.algorithm ≡ y.public_key.algorithm = a ∙ (ap (λ vs. algorithm_numbered (third vs)) same ∙ sym b) in
     let octets : x.public_key.octets ≡ y.public_key.octets = ap last same in
     λ i. record { flags = flags i; public_key = record { octets = octets i; algorithm = algorithm i } }
 
-pub cdnskey_told : (x y : CdnsKeyData) → CdnsKeyIsNamed x → CdnsKeyIsNamed y → cdnskey_values x ≡ cdnskey_values y → x ≡ y
+pub cdnskey_told : (x y : CdnsKeyData) → CdnsKeyIsByNumber x → CdnsKeyIsByNumber y → cdnskey_values x ≡ cdnskey_values y → x ≡ y
 unfolding first num second third last str
 cdnskey_told x y a b same =
     let flags : x.flags ≡ y.flags = ap first same in

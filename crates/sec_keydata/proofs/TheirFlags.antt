@@ -4,7 +4,7 @@ use Rattle.std.specs.Prelude.{◌&&◌}
 use Rattle.std.proofs.lemmas.Bool.{cases_lt}
 use Rattle.dns_wire.specs.declared.error.DecodeError.{DecodeError}
 use Rattle.dns_grammar.specs.Fields.{Num}
-use Rattle.dns_grammar.specs.KeyRows.{key_flags_fault}
+use Rattle.sec_keydata.specs.KeyRows.{key_flags_fault}
 use Rattle.sec_keydata.specs.declared.key_uses.KeyTrust.{KeyTrust}
 use Rattle.sec_keydata.specs.declared.key_uses.KeyTrust.TheVariants as trusts
 use Rattle.sec_keydata.specs.declared.key_uses.KeyUsage.{KeyUsage}

@@ -1,6 +1,6 @@
 -- What is written of a key is read back.
 use Rattle.std.proofs.Common.{ℕ, ◌^◌, ◌<◌, List, refl, arith}
-use Rattle.dns_grammar.specs.KeyRows.{dnskey_row}
+use Rattle.sec_keydata.specs.KeyRows.{dnskey_row}
 use Rattle.dns_grammar.specs.Laws.{AreReadBack}
 use Rattle.dns_grammar.proofs.ReadAgain.{written_row}
 use Rattle.sec_keydata.specs.DnsKeys.{public_key_values}

@@ -6,7 +6,7 @@ use Rattle.base64.specs.Engines.{standard}
 use Rattle.base64.specs.GeneralPurpose.{encode_of}
 use Rattle.dns_grammar.specs.Fields.{Value, Num, Str}
 use Rattle.sec_codes.specs.declared.algorithm.Algorithm.{Algorithm}
-use Rattle.sec_codes.specs.Algorithms.{number, algorithm_of}
+use Rattle.sec_codes.specs.Algorithms.{number, algorithm_numbered}
 use Rattle.sec_codes.specs.KeyForms.{Key}
 use Rattle.sec_codes.specs.KeptKeys.{kept_key}
 use Rattle.sec_keydata.specs.declared.dnskey.DNSKEY.{DNSKEY}
@@ -42,8 +42,8 @@ abbrev pub dnskey_text : DnsKeyData → List ℕ
 dnskey_text key = public_key_text key.flags (number key.public_key.algorithm) key.public_key.octets
 
 -- The algorithm is that of its number: none with a name of its own is called unknown.
-abbrev pub DnsKeyIsNamed : DnsKeyData → Type 0
-DnsKeyIsNamed key = key.public_key.algorithm ≡ algorithm_of (number key.public_key.algorithm)
+abbrev pub DnsKeyIsByNumber : DnsKeyData → Type 0
+DnsKeyIsByNumber key = key.public_key.algorithm ≡ algorithm_numbered (number key.public_key.algorithm)
 
 -- ---- CDNSKEY
 
@@ -65,8 +65,8 @@ abbrev pub cdnskey_text : CdnsKeyData → List ℕ
 cdnskey_text key = public_key_text key.flags (optional_number key.algorithm) key.octets
 
 -- the algorithm is that of its number, and none for 0
-abbrev pub CdnsKeyIsNamed : CdnsKeyData → Type 0
-CdnsKeyIsNamed key = key.algorithm ≡ optional_algorithm (optional_number key.algorithm)
+abbrev pub CdnsKeyIsByNumber : CdnsKeyData → Type 0
+CdnsKeyIsByNumber key = key.algorithm ≡ optional_algorithm (optional_number key.algorithm)
 
 -- the key, and none where the record asks for deletion
 abbrev pub key_unless_delete : CdnsKeyData → Option Key

@@ -4,12 +4,13 @@ use Rattle.std.specs.Fmt.{decimal}
 use Rattle.base64.specs.Engines.{standard}
 use Rattle.base64.specs.GeneralPurpose.{encode_of}
 use Rattle.dns_wire.specs.declared.error.DecodeError.{DecodeError}
-use Rattle.dns_wire.specs.Reading.{ReadsUnless}
-use Rattle.dns_grammar.specs.RecordData.{data_at}
-use Rattle.dns_grammar.specs.KeyRows.{key_row}
+use Rattle.dns_wire.specs.declared.decoder.BinDecoder.{BinDecoder}
+use Rattle.dns_wire.specs.Reading.{octets, place, ReadsUnless}
+use Rattle.dns_grammar.specs.RecordData.{one_type_data_at}
+use Rattle.sec_keydata.specs.KeyRows.{key_row}
 use Rattle.dns_grammar.specs.Fields.{Value, Num, Str}
 use Rattle.sec_codes.specs.declared.algorithm.Algorithm.{Algorithm}
-use Rattle.sec_codes.specs.Algorithms.{number, text, algorithm_of}
+use Rattle.sec_codes.specs.Algorithms.{number, text, algorithm_numbered}
 use Rattle.sec_keydata.specs.declared.key.KEY.{KEY}
 use Rattle.sec_keydata.specs.declared.protocol.Protocol.{Protocol}
 use Rattle.sec_keydata.specs.KeyUses.{protocol_number, protocol_of}
@@ -25,21 +26,21 @@ abbrev pub key_data : KEY → KeyData
 key_data key = record { flags = key.flags; protocol = key.protocol; algorithm = key.algorithm; public_key = key.public_key }
 
 -- the fields of the data
-abbrev pub key_fields : ℕ → ℕ → ℕ → List ℕ → List Value
-key_fields flags protocol algorithm octets = Num flags ∷ Num protocol ∷ Num algorithm ∷ Str octets ∷ []
+abbrev pub key_row_values : ℕ → ℕ → ℕ → List ℕ → List Value
+key_row_values flags protocol algorithm octets = Num flags ∷ Num protocol ∷ Num algorithm ∷ Str octets ∷ []
 
 abbrev pub key_values : KeyData → List Value
-key_values key = key_fields key.flags (protocol_number key.protocol) (number key.algorithm) key.public_key
+key_values key = key_row_values key.flags (protocol_number key.protocol) (number key.algorithm) key.public_key
 
 -- flags, protocol number, name of the algorithm, key in base64
 abbrev pub key_text : KeyData → List ℕ
 key_text key = decimal key.flags ++ codes " " ++ decimal (protocol_number key.protocol) ++ codes " " ++ text key.algorithm ++ codes " " ++ encode_of standard key.public_key
 
 -- the protocol and the algorithm are those of their numbers: none with a name of its own is called other or unknown
-pub record KeyIsNamed (key : KeyData) : Type 0 where
+pub record KeyIsByNumber (key : KeyData) : Type 0 where
   pub protocol : key.protocol ≡ protocol_of (protocol_number key.protocol)
-  pub algorithm : key.algorithm ≡ algorithm_of (number key.algorithm)
+  pub algorithm : key.algorithm ≡ algorithm_numbered (number key.algorithm)
 
 -- The answer is what reading the row gives, its values or the first fault, or want of memory.
-abbrev pub key_is_read : ℕ → List ℕ → ℕ → Result KEY DecodeError → ℕ → Type 0
-key_is_read len m p result q = ReadsUnless (λ key. key_values (key_data key)) result p q (data_at key_row m p len) × IfOk result (λ key. KeyIsNamed (key_data key))
+abbrev pub key_is_read : ℕ → BinDecoder → BinDecoder → Result KEY DecodeError → Type 0
+key_is_read len old new result = ReadsUnless (λ key. key_values (key_data key)) result old new (one_type_data_at key_row (octets old) (place old) len) × IfOk result (λ key. KeyIsByNumber (key_data key))

@@ -10,7 +10,7 @@ use Rattle.sec_digest.specs.declared.digest_type.DigestType.{DigestType}
 use Rattle.sec_digest.specs.Digests.{digest, digest_number}
 use Rattle.sec_keydata.specs.declared.key_data_error.KeyDataError.{KeyDataError}
 use Rattle.sec_keydata.specs.declared.key_data_error.KeyDataError.TheVariants.{UnknownDigestAlgorithm}
-use Rattle.sec_keydata.specs.Digests.{DsData}
+use Rattle.sec_keydata.specs.DsData.{DsData}
 use Rattle.sec_keydata.specs.DnsKeyFlags.{is_zone_key}
 use Rattle.sec_keydata.specs.DnsKeys.{DnsKeyData}
 use Rattle.sec_keydata.specs.KeyTags.{held_octets, dnskey_tag}
@@ -23,14 +23,14 @@ ds_digest owner key kind = do
   ok_or (result_ok (digest kind (wire (low owner) ++ octets))) (UnknownDigestAlgorithm (digest_number kind))
 
 -- the DNSKEY of a public key: one of a zone, and a secure entry point
-abbrev pub entry_key : Key → DnsKeyData
-entry_key key = record { flags = 257; public_key = key }
+abbrev pub secure_entry_key : Key → DnsKeyData
+secure_entry_key key = record { flags = 257; public_key = key }
 
 -- the DS of an owner's public key
 abbrev pub ds_of_key : List (List ℕ) → Key → DigestType → Result DsData KeyDataError
 ds_of_key owner key kind = do
-  tag ← dnskey_tag (entry_key key)
-  octets ← ds_digest owner (entry_key key) kind
+  tag ← dnskey_tag (secure_entry_key key)
+  octets ← ds_digest owner (secure_entry_key key) kind
   Ok (record { key_tag = tag; algorithm = key.algorithm; digest_type = kind; digest = octets })
 
 -- Whether a DS covers an owner's key: the key is one of a zone (RFC 4034 5.2), and its digest is that of the DS. A key without a digest of

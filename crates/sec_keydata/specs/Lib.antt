@@ -1,9 +1,10 @@
-pub mod Digests
 pub mod DnsKeyFlags
 pub mod DnsKeys
+pub mod DnskeyFields
+pub mod DsData
 pub mod KeyData
 pub mod KeyDigests
-pub mod KeyFields
+pub mod KeyRows
 pub mod KeyTags
 pub mod KeyUses
 pub mod OptionalAlgorithms

@@ -1,7 +1,7 @@
 -- Algorithms of CDNSKEY and CDS records, of which there may be none (RFC 8078 4).
 use Rattle.std.specs.Prelude.{ℕ, nat_eq, if◌then◌else◌, Option, Some, None}
 use Rattle.sec_codes.specs.declared.algorithm.Algorithm.{Algorithm}
-use Rattle.sec_codes.specs.Algorithms.{number, algorithm_of}
+use Rattle.sec_codes.specs.Algorithms.{number, algorithm_numbered}
 
 -- the number of an algorithm, and 0 for none
 abbrev pub optional_number : Option Algorithm → ℕ
@@ -10,4 +10,4 @@ optional_number (Some a) = number a
 
 -- the algorithm of a number, and none for 0
 abbrev pub optional_algorithm : ℕ → Option Algorithm
-optional_algorithm n = if nat_eq n 0 then None else Some (algorithm_of n)
+optional_algorithm n = if nat_eq n 0 then None else Some (algorithm_numbered n)

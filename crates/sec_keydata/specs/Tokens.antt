@@ -11,14 +11,14 @@ use Rattle.hex.specs.Hex as hexadecimal
 use Rattle.dns_io.specs.Words.{words, number_below}
 use Rattle.dns_wire.specs.Reading.{◌>>=◌}
 use Rattle.sec_codes.specs.declared.algorithm.Algorithm.{Algorithm}
-use Rattle.sec_codes.specs.Algorithms.{algorithm_of}
+use Rattle.sec_codes.specs.Algorithms.{algorithm_numbered}
 use Rattle.sec_digest.specs.Digests.{digest_type}
 use Rattle.sec_keydata.specs.declared.mnemonics.TheConstants.{MNEMONICS}
 use Rattle.sec_keydata.specs.declared.token_error.TokenError.{TokenError}
 use Rattle.sec_keydata.specs.declared.token_error.TokenError.TheVariants.{Missing, BadNumber, ProtocolNot3, BadBase64, BadHex}
 use Rattle.sec_keydata.specs.declared.token_error.TokenField.{TokenField}
 use Rattle.sec_keydata.specs.declared.token_error.TokenField.TheVariants as fields
-use Rattle.sec_keydata.specs.Digests.{DsData}
+use Rattle.sec_keydata.specs.DsData.{DsData}
 use Rattle.sec_keydata.specs.DnsKeys.{DnsKeyData}
 
 -- ---- words and fields
@@ -62,7 +62,7 @@ algorithm_named (entry ∷ table) word = if bytes_eq word entry.0 then Some entr
 
 -- the algorithm that a word names by its mnemonic, or by its number
 abbrev pub algorithm_in : List ℕ → Result Algorithm TokenError
-algorithm_in word = ok_or (option_or (algorithm_named mnemonics word) (option_map algorithm_of (number_below (2 ^ 8) word))) BadNumber
+algorithm_in word = ok_or (option_or (algorithm_named mnemonics word) (option_map algorithm_numbered (number_below (2 ^ 8) word))) BadNumber
 
 -- ---- records
 
@@ -78,7 +78,7 @@ dnskey_in all = do
   algorithm_number ← number_in (2 ^ 8) algorithm.0
   text ← joined_words fields.PublicKey algorithm.1
   octets ← base64_octets text
-  Ok (record { flags = flags_number; public_key = record { octets = octets; algorithm = algorithm_of algorithm_number } })
+  Ok (record { flags = flags_number; public_key = record { octets = octets; algorithm = algorithm_numbered algorithm_number } })
 
 -- the DNSKEY of a text
 abbrev pub token_dnskey : List ℕ → Result DnsKeyData TokenError

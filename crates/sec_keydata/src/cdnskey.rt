@@ -3,15 +3,15 @@ ghost use Rattle.std.specs.Prelude.{◌≡◌, Some, IfOk};
 ghost use Rattle.std.specs.Option.{is_none, option_map};
 ghost use Rattle.dns_wire.specs.Reading.{ReadsUnless};
 ghost use Rattle.dns_grammar.specs.Fields.{fields_octets};
-ghost use Rattle.dns_grammar.specs.RecordData.{data_at};
-ghost use Rattle.dns_grammar.specs.KeyRows.{dnskey_row};
+ghost use Rattle.dns_grammar.specs.RecordData.{one_type_data_at};
+ghost use Rattle.sec_keydata.specs.KeyRows.{dnskey_row};
 ghost use Rattle.sec_codes.specs.KeptKeys.{kept_key};
 ghost use Rattle.sec_keydata.specs.DnsKeyFlags as specs;
-ghost use Rattle.sec_keydata.specs.DnsKeys.{cdnskey_data, cdnskey_values, cdnskey_text, CdnsKeyIsNamed, key_unless_delete};
+ghost use Rattle.sec_keydata.specs.DnsKeys.{cdnskey_data, cdnskey_values, cdnskey_text, CdnsKeyIsByNumber, key_unless_delete};
 
 use crate::dnskey_flags::{flags_of, is_revoked, is_secure_entry_point, is_zone_key};
 use crate::optional_algorithm::{optional_algorithm, optional_number};
-use dns_grammar::{Part, data_end, emit_parts};
+use dns_grammar::{FieldOut, data_end, emit_fields};
 use dns_text::Base64Text;
 use dns_wire::{
     BinDecoder, BinEncodable, BinEncoder, DecodeError, EmitError, OutOfMemory, RecordDataDecodable,
@@ -134,14 +134,14 @@ impl CDNSKEY {
 }
 
 impl<'r> RecordDataDecodable<'r> for CDNSKEY {
-    ghost is_read = { λ len m p result q. ReadsUnless (λ key. cdnskey_values (cdnskey_data key)) result p q (data_at dnskey_row m p len) × IfOk result (λ key. CdnsKeyIsNamed (cdnskey_data key)) };
+    ghost is_read = { λ len old new result. ReadsUnless (λ key. cdnskey_values (cdnskey_data key)) result old new (one_type_data_at dnskey_row (octets old) (place old) len) × IfOk result (λ key. CdnsKeyIsByNumber (cdnskey_data key)) };
 
     /// Reads flags, protocol, algorithm and key.
     ///
     /// # Errors
     ///
     /// `InsufficientBytes` where an octet is needed past the data, `DnsKeyProtocolNot3`, or `OutOfMemory`.
-    #[tactic(auto, unfolding(dns_grammar::specs::RecordData::data_at, dns_grammar::specs::RecordData::row_at))]
+    #[tactic(auto, unfolding(dns_grammar::specs::RecordData::one_type_data_at, dns_grammar::specs::RecordData::fields_filling))]
     fn read_data(
         alloc: Global,
         decoder: &mut BinDecoder<'r>,
@@ -169,13 +169,13 @@ impl BinEncodable for CDNSKEY {
     ghost written = { λ canonical _ key. fields_octets canonical dnskey_row (cdnskey_values (cdnskey_data key)) };
 
     fn emit(&self, encoder: &mut BinEncoder) -> Result<(), EmitError> {
-        emit_parts(
+        emit_fields(
             encoder,
             &[
-                Part::U16(self.flags),
-                Part::U8(3),
-                Part::U8(optional_number(self.algorithm)),
-                Part::Octets(self.public_key.as_slice()),
+                FieldOut::U16(self.flags),
+                FieldOut::U8(3),
+                FieldOut::U8(optional_number(self.algorithm)),
+                FieldOut::Octets(self.public_key.as_slice()),
             ],
         )
     }

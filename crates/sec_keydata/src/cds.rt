@@ -1,8 +1,8 @@
 //! CDS records: the DS records that a zone wants (RFC 7344 3.1, RFC 8078 4).
 ghost use Rattle.std.specs.Prelude.{◌≡◌, ◌↔◌, Some, None, IfOk, IsTrue};
 ghost use Rattle.dns_grammar.specs.Fields.{fields_octets};
-ghost use Rattle.dns_grammar.specs.KeyRows.{ds_row};
-ghost use Rattle.sec_keydata.specs.Digests.{cds_data, cds_values, cds_text, fields_values, fields_text, cds_is_read};
+ghost use Rattle.sec_keydata.specs.KeyRows.{ds_row};
+ghost use Rattle.sec_keydata.specs.DsData.{cds_data, cds_values, cds_text, fields_values, fields_text, cds_is_read};
 
 use crate::digest_fields::DigestFields;
 use crate::optional_algorithm::{optional_algorithm, optional_number};
@@ -116,7 +116,7 @@ impl<'r> RecordDataDecodable<'r> for CDS {
     /// # Errors
     ///
     /// `InsufficientBytes` where an octet is needed past the data, or `OutOfMemory`.
-    #[tactic(auto, unfolding(dns_grammar::specs::RecordData::data_at))]
+    #[tactic(auto, unfolding(dns_grammar::specs::RecordData::one_type_data_at))]
     fn read_data(
         alloc: Global,
         decoder: &mut BinDecoder<'r>,

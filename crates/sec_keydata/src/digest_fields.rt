@@ -3,11 +3,11 @@ ghost use Rattle.std.specs.Prelude.{◌≡◌, ◌≤◌, length, Some};
 ghost use Rattle.dns_wire.specs.Reading.{octets, place, Gives};
 ghost use Rattle.dns_wire.specs.Writing.{Writes};
 ghost use Rattle.dns_grammar.specs.Fields.{fields_octets};
-ghost use Rattle.dns_grammar.specs.RecordData.{row_at};
-ghost use Rattle.dns_grammar.specs.KeyRows.{ds_row};
-ghost use Rattle.sec_keydata.specs.Digests.{fields_values, fields_text};
+ghost use Rattle.dns_grammar.specs.RecordData.{fields_filling};
+ghost use Rattle.sec_keydata.specs.KeyRows.{ds_row};
+ghost use Rattle.sec_keydata.specs.DsData.{fields_values, fields_text};
 
-use dns_grammar::{Part, emit_parts};
+use dns_grammar::{FieldOut, emit_fields};
 use dns_text::UpperHex;
 use dns_wire::{BinDecoder, BinEncoder, DecodeError, EmitError};
 use std::fmt;
@@ -23,14 +23,14 @@ pub(crate) struct DigestFields<'a> {
 
 impl<'a> DigestFields<'a> {
     /// Reads the fields of data that end at `end`.
-    #[tactic(auto, unfolding(dns_grammar::specs::RecordData::row_at))]
+    #[tactic(auto, unfolding(dns_grammar::specs::RecordData::fields_filling))]
     pub(crate) fn read_within(
         mut reader: BinDecoder<'a>,
         end: usize,
     ) -> Result<DigestFields<'a>, DecodeError>
         requires ahead { place reader ≤ end }
         requires inside { end ≤ length (octets reader) }
-        ensures exact { Gives fields_values result (row_at ds_row (octets reader.entry) (place reader.entry) end) }
+        ensures exact { Gives fields_values result (fields_filling ds_row (octets reader.entry) (place reader.entry) end) }
     {
         let key_tag = reader.read_u16_within(end)?;
         let algorithm = reader.read_u8_within(end)?;
@@ -48,13 +48,13 @@ impl<'a> DigestFields<'a> {
     pub(crate) fn emit(&self, encoder: &mut BinEncoder) -> Result<(), EmitError>
         ensures { Writes result encoder.old encoder.new (fields_octets encoder.old.canonical_form ds_row (fields_values self.now)) }
     {
-        emit_parts(
+        emit_fields(
             encoder,
             &[
-                Part::U16(self.key_tag),
-                Part::U8(self.algorithm),
-                Part::U8(self.digest_type),
-                Part::Octets(self.digest),
+                FieldOut::U16(self.key_tag),
+                FieldOut::U8(self.algorithm),
+                FieldOut::U8(self.digest_type),
+                FieldOut::Octets(self.digest),
             ],
         )
     }

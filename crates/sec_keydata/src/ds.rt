@@ -1,8 +1,8 @@
 //! DS records: the digest of a zone's key, in the zone above it (RFC 4034 5).
 ghost use Rattle.std.specs.Prelude.{◌≡◌, Some, IfOk};
 ghost use Rattle.dns_grammar.specs.Fields.{fields_octets};
-ghost use Rattle.dns_grammar.specs.KeyRows.{ds_row};
-ghost use Rattle.sec_keydata.specs.Digests.{ds_data, ds_values, ds_text, fields_values, fields_text, ds_is_read};
+ghost use Rattle.sec_keydata.specs.KeyRows.{ds_row};
+ghost use Rattle.sec_keydata.specs.DsData.{ds_data, ds_values, ds_text, fields_values, fields_text, ds_is_read};
 
 use crate::digest_fields::DigestFields;
 use dns_grammar::data_end;
@@ -103,7 +103,7 @@ impl<'r> RecordDataDecodable<'r> for DS {
     /// # Errors
     ///
     /// `InsufficientBytes` where an octet is needed past the data, or `OutOfMemory`.
-    #[tactic(auto, unfolding(dns_grammar::specs::RecordData::data_at))]
+    #[tactic(auto, unfolding(dns_grammar::specs::RecordData::one_type_data_at))]
     fn read_data(
         alloc: Global,
         decoder: &mut BinDecoder<'r>,

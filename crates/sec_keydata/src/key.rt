@@ -1,13 +1,13 @@
 //! KEY records: keys of other uses than DNSSEC's (RFC 2535 3, RFC 3445).
 ghost use Rattle.std.specs.Prelude.{◌≡◌, ◌↔◌, ◌/◌, ◌%◌, ◌^◌, Some, IfOk, IsTrue};
 ghost use Rattle.dns_grammar.specs.Fields.{Num, no_fault, fields_octets};
-ghost use Rattle.dns_grammar.specs.KeyRows.{key_flags_fault, key_row};
+ghost use Rattle.sec_keydata.specs.KeyRows.{key_flags_fault, key_row};
 ghost use Rattle.sec_keydata.specs.KeyUses.{trust_code, usage_code, scope_bits, all_flags};
 ghost use Rattle.sec_keydata.specs.KeyData.{key_data, key_values, key_text, key_is_read};
 
 use crate::key_uses::{KeyTrust, KeyUsage, UpdateScope};
 use crate::protocol::Protocol;
-use dns_grammar::{Part, data_end, emit_parts};
+use dns_grammar::{FieldOut, data_end, emit_fields};
 use dns_text::Base64Text;
 use dns_wire::{
     BinDecoder, BinEncodable, BinEncoder, DecodeError, EmitError, Octets, OutOfMemory,
@@ -140,7 +140,7 @@ impl<'r> RecordDataDecodable<'r> for KEY {
     /// # Errors
     ///
     /// `InsufficientBytes` where an octet is needed past the data, `KeyFlagsReserved` or `ExtendedKeyFlagsUnsupported`, or `OutOfMemory`.
-    #[tactic(auto, unfolding(dns_grammar::specs::RecordData::data_at, dns_grammar::specs::RecordData::row_at))]
+    #[tactic(auto, unfolding(dns_grammar::specs::RecordData::one_type_data_at, dns_grammar::specs::RecordData::fields_filling))]
     fn read_data(
         alloc: Global,
         decoder: &mut BinDecoder<'r>,
@@ -167,13 +167,13 @@ impl BinEncodable for KEY {
     ghost written = { λ canonical _ key. fields_octets canonical key_row (key_values (key_data key)) };
 
     fn emit(&self, encoder: &mut BinEncoder) -> Result<(), EmitError> {
-        emit_parts(
+        emit_fields(
             encoder,
             &[
-                Part::U16(self.flags),
-                Part::U8(self.protocol.into()),
-                Part::U8(self.algorithm.into()),
-                Part::Octets(self.public_key.as_slice()),
+                FieldOut::U16(self.flags),
+                FieldOut::U8(self.protocol.into()),
+                FieldOut::U8(self.algorithm.into()),
+                FieldOut::Octets(self.public_key.as_slice()),
             ],
         )
     }

@@ -2,14 +2,14 @@
 ghost use Rattle.std.specs.Prelude.{◌≡◌, IfOk};
 ghost use Rattle.dns_wire.specs.Reading.{Gives, GivesUnless};
 ghost use Rattle.sec_digest.specs.Digests.{digest_octets};
-ghost use Rattle.sec_keydata.specs.Digests.{ds_data};
+ghost use Rattle.sec_keydata.specs.DsData.{ds_data};
 ghost use Rattle.sec_keydata.specs.DnsKeys.{dnskey_data};
-ghost use Rattle.sec_keydata.specs.KeyDigests.{ds_digest, entry_key, ds_of_key, covered};
+ghost use Rattle.sec_keydata.specs.KeyDigests.{ds_digest, secure_entry_key, ds_of_key, covered};
 
 use crate::dnskey::DNSKEY;
 use crate::ds::DS;
 use crate::key_data_error::KeyDataError;
-use crate::key_fields::KeyFields;
+use crate::dnskey_fields::DnskeyFields;
 use dns_names::Name;
 use dns_wire::OutOfMemory;
 use sec_codes::{PublicKey, PublicKeyBuf};
@@ -23,7 +23,7 @@ impl DNSKEY {
     ///
     /// Want of memory.
     pub fn from_key<P: PublicKey>(alloc: Global, public_key: &P) -> Result<DNSKEY, OutOfMemory>
-        ensures { IfOk result (λ key. dnskey_data key ≡ entry_key (P.key public_key.now)) }
+        ensures { IfOk result (λ key. dnskey_data key ≡ secure_entry_key (P.key public_key.now)) }
     {
         let octets = Vec::from_slice(alloc, public_key.public_bytes())?;
         let key = PublicKeyBuf::new(octets, public_key.algorithm());
@@ -39,7 +39,7 @@ impl DNSKEY {
     pub fn to_digest(&self, name: &Name, digest_type: DigestType) -> Result<Digest, KeyDataError>
         ensures { Gives digest_octets result (ds_digest name.now (dnskey_data self.now) digest_type) }
     {
-        KeyFields::of(self).digest(name, digest_type)
+        DnskeyFields::of(self).digest(name, digest_type)
     }
 }
 
@@ -58,7 +58,7 @@ impl DS {
     ) -> Result<DS, KeyDataError>
         ensures { GivesUnless KeyDataError.OutOfMemory ds_data result (ds_of_key name.now (P.key public_key.now) digest_type) }
     {
-        let fields = KeyFields::entry(public_key);
+        let fields = DnskeyFields::secure_entry(public_key);
         let key_tag = fields.tag()?;
         let digest = fields.digest(name, digest_type)?;
         match Vec::from_slice(alloc, digest.as_slice()) {

@@ -5,7 +5,7 @@ ghost use Rattle.sec_keydata.specs.KeyTags.{octet_sum, folded, key_tag, dnskey_t
 
 use crate::dnskey::DNSKEY;
 use crate::key_data_error::KeyDataError;
-use crate::key_fields::KeyFields;
+use crate::dnskey_fields::DnskeyFields;
 
 impl DNSKEY {
     /// The tag of the key, by which a DS or an RRSIG names it (RFC 4034 appendix B). It is computed in this way for every algorithm.
@@ -17,7 +17,7 @@ impl DNSKEY {
     pub fn calculate_key_tag(&self) -> Result<u16, KeyDataError>
         ensures { result ≡ dnskey_tag (dnskey_data self.now) }
     {
-        KeyFields::of(self).tag()
+        DnskeyFields::of(self).tag()
     }
 
     /// The tag of a DNSKEY whose data are these octets (RFC 4034 appendix B).

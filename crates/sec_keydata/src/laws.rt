@@ -1,7 +1,7 @@
 //! Laws of the definitions. Nothing calls these functions.
 ghost use Rattle.std.specs.Prelude.{◌≡◌, ◌<◌, ◌^◌, ◌*◌, ◌+◌, ◌/◌, ◌%◌, ℕ, false, List, length, None, Ok, Err};
 ghost use Rattle.dns_grammar.specs.Fields.{Num, Str, fields_octets};
-ghost use Rattle.dns_grammar.specs.KeyRows.{dnskey_row, ds_row, key_row, key_flags_fault};
+ghost use Rattle.sec_keydata.specs.KeyRows.{dnskey_row, ds_row, key_row, key_flags_fault};
 ghost use Rattle.dns_grammar.specs.Laws.{AreReadBack};
 ghost use Rattle.dns_wire.specs.Octets.{AreOctets};
 ghost use Rattle.sec_codes.specs.Algorithms.{number};
@@ -9,11 +9,11 @@ ghost use Rattle.sec_keydata.specs.declared.token_error.TokenError.TheVariants.{
 ghost use Rattle.sec_keydata.specs.declared.token_error.TokenField.TheVariants.{PublicKey, Digest};
 ghost use Rattle.sec_digest.specs.Digests.{digest_number};
 ghost use Rattle.sec_keydata.specs.DnsKeyFlags.{flags_of, is_zone_key, is_secure_entry_point, is_revoked};
-ghost use Rattle.sec_keydata.specs.DnsKeys.{DnsKeyData, CdnsKeyData, DnsKeyIsNamed, CdnsKeyIsNamed, public_key_values, dnskey_values, cdnskey_values, dnskey_text};
+ghost use Rattle.sec_keydata.specs.DnsKeys.{DnsKeyData, CdnsKeyData, DnsKeyIsByNumber, CdnsKeyIsByNumber, public_key_values, dnskey_values, cdnskey_values, dnskey_text};
 ghost use Rattle.sec_keydata.specs.Tokens.{token_dnskey, token_ds};
 ghost use Rattle.sec_keydata.specs.KeyTags.{dnskey_octets, dnskey_tag};
-ghost use Rattle.sec_keydata.specs.Digests.{DsData, CdsData, digest_values, ds_values, ds_text, cds_values, DsIsNamed, CdsIsNamed};
-ghost use Rattle.sec_keydata.specs.KeyData.{KeyData, key_fields, key_values, KeyIsNamed};
+ghost use Rattle.sec_keydata.specs.DsData.{DsData, CdsData, digest_values, ds_values, ds_text, cds_values, DsIsByNumber, CdsIsByNumber};
+ghost use Rattle.sec_keydata.specs.KeyData.{KeyData, key_row_values, key_values, KeyIsByNumber};
 ghost use Rattle.sec_keydata.specs.KeyUses.{trust_code, usage_code, scope_bits, all_flags, protocol_number, protocol_of};
 
 /// The flags that are made of three answers give these answers.
@@ -38,17 +38,17 @@ pub fn digests_are_read_back()
 /// What is written of a KEY, whose flags have no fault, is read as data of the same fields.
 #[tactic(auto, using(crate::proofs::WrittenDigests::other_keys_back))]
 pub fn other_keys_are_read_back()
-    ensures { (flags protocol algorithm : ℕ) (octets : List ℕ) → flags < 2 ^ 16 → key_flags_fault (Num flags) ≡ None → protocol < 2 ^ 8 → algorithm < 2 ^ 8 → AreReadBack key_row (key_fields flags protocol algorithm octets) }
+    ensures { (flags protocol algorithm : ℕ) (octets : List ℕ) → flags < 2 ^ 16 → key_flags_fault (Num flags) ≡ None → protocol < 2 ^ 8 → algorithm < 2 ^ 8 → AreReadBack key_row (key_row_values flags protocol algorithm octets) }
 {}
 
 /// Data whose algorithm, digest type and protocol are those of their numbers are told by their fields.
 #[tactic(auto, using(crate::proofs::TheirFields::dnskey_told, crate::proofs::TheirFields::cdnskey_told, crate::proofs::TheirFields::ds_told, crate::proofs::TheirFields::cds_told, crate::proofs::TheirFields::key_told))]
 pub fn fields_tell_data()
-    ensures dnskey { (x y : DnsKeyData) → DnsKeyIsNamed x → DnsKeyIsNamed y → dnskey_values x ≡ dnskey_values y → x ≡ y }
-    ensures cdnskey { (x y : CdnsKeyData) → CdnsKeyIsNamed x → CdnsKeyIsNamed y → cdnskey_values x ≡ cdnskey_values y → x ≡ y }
-    ensures ds { (x y : DsData) → DsIsNamed x → DsIsNamed y → ds_values x ≡ ds_values y → x ≡ y }
-    ensures cds { (x y : CdsData) → CdsIsNamed x → CdsIsNamed y → cds_values x ≡ cds_values y → x ≡ y }
-    ensures key { (x y : KeyData) → KeyIsNamed x → KeyIsNamed y → key_values x ≡ key_values y → x ≡ y }
+    ensures dnskey { (x y : DnsKeyData) → DnsKeyIsByNumber x → DnsKeyIsByNumber y → dnskey_values x ≡ dnskey_values y → x ≡ y }
+    ensures cdnskey { (x y : CdnsKeyData) → CdnsKeyIsByNumber x → CdnsKeyIsByNumber y → cdnskey_values x ≡ cdnskey_values y → x ≡ y }
+    ensures ds { (x y : DsData) → DsIsByNumber x → DsIsByNumber y → ds_values x ≡ ds_values y → x ≡ y }
+    ensures cds { (x y : CdsData) → CdsIsByNumber x → CdsIsByNumber y → cds_values x ≡ cds_values y → x ≡ y }
+    ensures key { (x y : KeyData) → KeyIsByNumber x → KeyIsByNumber y → key_values x ≡ key_values y → x ≡ y }
 {}
 
 /// A number is that of its protocol.
@@ -85,13 +85,13 @@ pub fn tags_are_of_octets()
 /// What a DNSKEY prints is read as the DNSKEY, where its algorithm is that of its number and its key is not empty.
 #[tactic(auto, using(crate::proofs::TextsBack::text_back, crate::proofs::TextsBack::keyless_text_back))]
 pub fn key_texts_are_read_back()
-    ensures read { (key : DnsKeyData) → key.flags < 2 ^ 16 → number key.public_key.algorithm < 2 ^ 8 → DnsKeyIsNamed key → AreOctets key.public_key.octets → 0 < length key.public_key.octets → token_dnskey (dnskey_text key) ≡ Ok key }
+    ensures read { (key : DnsKeyData) → key.flags < 2 ^ 16 → number key.public_key.algorithm < 2 ^ 8 → DnsKeyIsByNumber key → AreOctets key.public_key.octets → 0 < length key.public_key.octets → token_dnskey (dnskey_text key) ≡ Ok key }
     ensures no_key { (key : DnsKeyData) → key.flags < 2 ^ 16 → number key.public_key.algorithm < 2 ^ 8 → length key.public_key.octets ≡ 0 → token_dnskey (dnskey_text key) ≡ Err (Missing PublicKey) }
 {}
 
 /// What a DS prints is read as the DS, where its algorithm and its digest type are those of their numbers and its digest is not empty.
 #[tactic(auto, using(crate::proofs::DigestTextsBack::digest_text_back, crate::proofs::DigestTextsBack::empty_digest_text_back))]
 pub fn digest_texts_are_read_back()
-    ensures read { (ds : DsData) → ds.key_tag < 2 ^ 16 → number ds.algorithm < 2 ^ 8 → digest_number ds.digest_type < 2 ^ 8 → DsIsNamed ds → AreOctets ds.digest → 0 < length ds.digest → token_ds (ds_text ds) ≡ Ok ds }
+    ensures read { (ds : DsData) → ds.key_tag < 2 ^ 16 → number ds.algorithm < 2 ^ 8 → digest_number ds.digest_type < 2 ^ 8 → DsIsByNumber ds → AreOctets ds.digest → 0 < length ds.digest → token_ds (ds_text ds) ≡ Ok ds }
     ensures no_digest { (ds : DsData) → ds.key_tag < 2 ^ 16 → number ds.algorithm < 2 ^ 8 → digest_number ds.digest_type < 2 ^ 8 → length ds.digest ≡ 0 → token_ds (ds_text ds) ≡ Err (Missing Digest) }
 {}

@@ -10,7 +10,7 @@ mod ds;
 mod key;
 mod key_data_error;
 mod key_digest;
-mod key_fields;
+mod dnskey_fields;
 mod key_tag;
 mod key_uses;
 pub mod laws;

@@ -2,7 +2,7 @@
 ghost use Rattle.std.specs.Prelude.{◌≡◌, ◌^◌, Some};
 ghost use Rattle.dns_io.specs.Words.{words};
 ghost use Rattle.dns_wire.specs.Reading.{Gives, GivesUnless};
-ghost use Rattle.sec_keydata.specs.Digests.{ds_data};
+ghost use Rattle.sec_keydata.specs.DsData.{ds_data};
 ghost use Rattle.sec_keydata.specs.DnsKeys.{dnskey_data};
 ghost use Rattle.sec_keydata.specs.Tokens.{first_word, joined_words, number_in, base64_octets, hex_octets, algorithm_in, token_dnskey, token_ds};
 

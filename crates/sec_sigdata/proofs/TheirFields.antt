@@ -1,10 +1,10 @@
 -- The fields of data tell the data.
 use Rattle.std.proofs.Common.{◌≡◌, ℕ, Bool, true, false, List, [], ◌++◌, get_or, refl, ap, sym, ◌∙◌, arith}
 use Rattle.dns_grammar.specs.Fields.{Value, Num, Str, Named}
-use Rattle.sec_codes.specs.Algorithms.{algorithm_of}
+use Rattle.sec_codes.specs.Algorithms.{algorithm_numbered}
 use Rattle.sec_digest.specs.declared.nsec3_hash.Nsec3HashAlgorithm.{Nsec3HashAlgorithm}
 use Rattle.sec_digest.specs.declared.nsec3_hash.Nsec3HashAlgorithm.TheVariants.{SHA1}
-use Rattle.sec_sigdata.specs.Signatures.{SigData, SigIsNamed, sig_values}
+use Rattle.sec_sigdata.specs.Signatures.{SigData, SigIsByNumber, sig_values}
 use Rattle.sec_sigdata.specs.HashParameters.{HashData, opt_out_flags, hash_values}
 use Rattle.sec_sigdata.specs.Nsec.{NsecData, nsec_values}
 use Rattle.sec_sigdata.specs.Nsec3.{Nsec3Data, nsec3_values}
@@ -35,10 +35,10 @@ octets_at same i = ap (λ values. octets_held (field_at values i)) same
 name_at : {xs ys : List Value} → xs ≡ ys → (i : ℕ) → name_held (field_at xs i) ≡ name_held (field_at ys i)
 name_at same i = ap (λ values. name_held (field_at values i)) same
 
-pub sig_told : (x y : SigData) → SigIsNamed x → SigIsNamed y → sig_values x ≡ sig_values y → x ≡ y
+pub sig_told : (x y : SigData) → SigIsByNumber x → SigIsByNumber y → sig_values x ≡ sig_values y → x ≡ y
 sig_told x y a b same =
     let rtype : x.input.type_covered ≡ y.input.type_covered = number_at same 0 in
-    let algorithm : x.input.algorithm ≡ y.input.algorithm = a ∙ (ap algorithm_of (number_at same 1) ∙ sym b) in
+    let algorithm : x.input.algorithm ≡ y.input.algorithm = a ∙ (ap algorithm_numbered (number_at same 1) ∙ sym b) in
     let labels : x.input.num_labels ≡ y.input.num_labels = number_at same 2 in
     let ttl : x.input.original_ttl ≡ y.input.original_ttl = number_at same 3 in
     let expiration : x.input.sig_expiration.0 ≡ y.input.sig_expiration.0 = number_at same 4 in

@@ -8,9 +8,9 @@ use Rattle.dns_grammar.specs.Messages as grammar
 use Rattle.dns_grammar.specs.Messages.{TsigData, tsig_values}
 use Rattle.dns_grammar.specs.Tables.{tsig_row}
 use Rattle.dns_grammar.proofs.ReadAgain.{written_row}
-use Rattle.sec_sigdata.specs.TsigAlgorithms.{algorithm_name, algorithm_of}
+use Rattle.sec_sigdata.specs.TsigAlgorithms.{algorithm_name, tsig_algorithm_named}
 use Rattle.sec_sigdata.specs.TsigErrors.{optional_number, optional_error}
-use Rattle.sec_sigdata.specs.TsigRecords.{TsigFields, TsigFits, TsigIsNamed, fields_data}
+use Rattle.sec_sigdata.specs.TsigRecords.{TsigFields, TsigFits, TsigIsByNumber, fields_data}
 
 -- the fields of the data, one behind the other
 abbrev pub data_octets : TsigData → List ℕ
@@ -51,10 +51,10 @@ some_same x y e = cc
 data_told : (x y : TsigData) → tsig_values x ≡ tsig_values y → x ≡ y
 data_told x y same = some_same x y (ap (λ (vs : List Value). grammar.tsig_data (Some vs)) same)
 
-pub fields_told : (x y : TsigFields) → TsigIsNamed x → TsigIsNamed y → tsig_values (fields_data x) ≡ tsig_values (fields_data y) → x ≡ y
+pub fields_told : (x y : TsigFields) → TsigIsByNumber x → TsigIsByNumber y → tsig_values (fields_data x) ≡ tsig_values (fields_data y) → x ≡ y
 fields_told x y a b same =
     let told : fields_data x ≡ fields_data y = data_told (fields_data x) (fields_data y) same in
-    let algorithm : x.algorithm ≡ y.algorithm = a.algorithm ∙ (ap (λ (t : TsigData). algorithm_of t.algorithm) told ∙ sym b.algorithm) in
+    let algorithm : x.algorithm ≡ y.algorithm = a.algorithm ∙ (ap (λ (t : TsigData). tsig_algorithm_named t.algorithm) told ∙ sym b.algorithm) in
     let time : x.time ≡ y.time = ap (λ (t : TsigData). t.time) told in
     let fudge : x.fudge ≡ y.fudge = ap (λ (t : TsigData). t.fudge) told in
     let mac : x.mac ≡ y.mac = ap (λ (t : TsigData). t.mac) told in

@@ -7,7 +7,7 @@ use Rattle.dns_names.specs.Names.{wire}
 use Rattle.sec_digest.specs.declared.hmac.HmacHash.{HmacHash}
 use Rattle.sec_digest.specs.declared.hmac.HmacHash.TheVariants.{Sha256, Sha384, Sha512}
 use Rattle.sec_sigdata.specs.declared.tsig_algorithm.TsigAlgorithm.{TsigAlgorithm}
-use Rattle.sec_sigdata.specs.TsigAlgorithms.{algorithm_name, algorithm_among, algorithm_of, algorithm_with, hash_of}
+use Rattle.sec_sigdata.specs.TsigAlgorithms.{algorithm_name, algorithm_among, tsig_algorithm_named, algorithm_with, hash_of}
 
 both_same : {A : Type 0} (x y : A) (xs ys : List A) → x ≡ y → xs ≡ ys → x ∷ xs ≡ y ∷ ys
 both_same x y xs ys p q = cc
@@ -51,7 +51,7 @@ pub among_named : (algorithms : List TsigAlgorithm) (n : List (List ℕ)) → al
 among_named [] n = refl
 among_named (a ∷ rest) n = first_named a rest n (bytes_eq (wire (algorithm_name a)) (wire n)) refl (among_named rest n)
 
-of_with : (hash : HmacHash) → algorithm_of (algorithm_name (algorithm_with hash)) ≡ algorithm_with hash
+of_with : (hash : HmacHash) → tsig_algorithm_named (algorithm_name (algorithm_with hash)) ≡ algorithm_with hash
 of_with Sha256 = refl
 of_with Sha384 = refl
 of_with Sha512 = refl
@@ -65,7 +65,7 @@ no_hash : (algorithm : TsigAlgorithm) (hash : HmacHash) → hash_of algorithm �
 no_hash algorithm hash none some = cc
 
 -- an algorithm that is not supported has another name than those that are
-pub other_name : (algorithm : TsigAlgorithm) (hash : HmacHash) → algorithm ≡ algorithm_of (algorithm_name algorithm) → hash_of algorithm ≡ None
+pub other_name : (algorithm : TsigAlgorithm) (hash : HmacHash) → algorithm ≡ tsig_algorithm_named (algorithm_name algorithm) → hash_of algorithm ≡ None
     → false ≡ bytes_eq (wire (algorithm_name (algorithm_with hash))) (wire (algorithm_name algorithm))
 other_name algorithm hash named none = at (bytes_eq (wire (algorithm_name (algorithm_with hash))) (wire (algorithm_name algorithm))) refl
   where
@@ -74,5 +74,5 @@ other_name algorithm hash named none = at (bytes_eq (wire (algorithm_name (algor
     at true e =
         let d = bytes_eq-Decides (wire (algorithm_name (algorithm_with hash))) (wire (algorithm_name algorithm)) in
         let name : algorithm_name (algorithm_with hash) ≡ algorithm_name algorithm = one_wire _ _ (d.0 e) in
-        let same : algorithm ≡ algorithm_with hash = named ∙ (ap algorithm_of (sym name) ∙ of_with hash) in
+        let same : algorithm ≡ algorithm_with hash = named ∙ (ap tsig_algorithm_named (sym name) ∙ of_with hash) in
         absurd (no_hash algorithm hash none (ap hash_of same ∙ hash_with hash))

@@ -2,6 +2,7 @@ pub mod Errors
 pub mod HashParameters
 pub mod Nsec
 pub mod Nsec3
+pub mod SignatureRows
 pub mod Signatures
 pub mod TsigAlgorithms
 pub mod TsigErrors

@@ -7,11 +7,12 @@ use Rattle.dns_wire.specs.declared.error.DecodeError.{DecodeError}
 use Rattle.dns_names.specs.Names.{IsName}
 use Rattle.dns_names.specs.NameText.{name_text}
 use Rattle.dns_types.specs.Codes.{type_text}
-use Rattle.dns_wire.specs.Reading.{ReadsUnless}
-use Rattle.dns_grammar.specs.RecordData.{data_at}
-use Rattle.dns_grammar.specs.SignatureRows.{sig_row}
+use Rattle.dns_wire.specs.declared.decoder.BinDecoder.{BinDecoder}
+use Rattle.dns_wire.specs.Reading.{octets, place, ReadsUnless}
+use Rattle.dns_grammar.specs.RecordData.{one_type_data_at}
+use Rattle.sec_sigdata.specs.SignatureRows.{sig_row}
 use Rattle.dns_grammar.specs.Fields.{Field, Value, Num, Str, Named}
-use Rattle.sec_codes.specs.Algorithms.{number, text, algorithm_of}
+use Rattle.sec_codes.specs.Algorithms.{number, text, algorithm_numbered}
 use Rattle.sec_sigdata.specs.declared.sig_input.SigInput.{SigInput}
 use Rattle.sec_sigdata.specs.declared.sig.SIG.{SIG}
 use Rattle.sec_sigdata.specs.declared.rrsig.RRSIG.{RRSIG}
@@ -53,12 +54,12 @@ abbrev pub sig_values : SigData → List Value
 sig_values sig = input_values sig.input ++ Str sig.sig ∷ []
 
 -- The algorithm is that of its number: none with a name of its own is called unknown.
-abbrev pub SigIsNamed : SigData → Type 0
-SigIsNamed sig = sig.input.algorithm ≡ algorithm_of (number sig.input.algorithm)
+abbrev pub SigIsByNumber : SigData → Type 0
+SigIsByNumber sig = sig.input.algorithm ≡ algorithm_numbered (number sig.input.algorithm)
 
 -- The answer, seen by view, is what reading the row gives, its values or the first fault, or want of memory.
-abbrev pub sig_is_read : {X : Type 0} → (X → SigData) → ℕ → List ℕ → ℕ → Result X DecodeError → ℕ → Type 0
-sig_is_read view len m p result q = ReadsUnless (λ sig. sig_values (view sig)) result p q (data_at sig_row m p len) × IfOk result (λ sig. SigIsNamed (view sig))
+abbrev pub sig_is_read : {X : Type 0} → (X → SigData) → ℕ → BinDecoder → BinDecoder → Result X DecodeError → Type 0
+sig_is_read view len old new result = ReadsUnless (λ sig. sig_values (view sig)) result old new (one_type_data_at sig_row (octets old) (place old) len) × IfOk result (λ sig. SigIsByNumber (view sig))
 
 -- ---- the text (RFC 4034 3.2)
 

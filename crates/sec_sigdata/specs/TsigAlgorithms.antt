@@ -40,12 +40,12 @@ algorithm_among [] n = Unknown n
 algorithm_among (algorithm ∷ rest) n = if bytes_eq (wire (algorithm_name algorithm)) (wire n) then algorithm else algorithm_among rest n
 
 -- the algorithm of a name
-abbrev pub algorithm_of : List (List ℕ) → TsigAlgorithm
-algorithm_of = algorithm_among named_algorithms
+abbrev pub tsig_algorithm_named : List (List ℕ) → TsigAlgorithm
+tsig_algorithm_named = algorithm_among named_algorithms
 
 -- the algorithm whose name is read at a place
 abbrev pub algorithm_at : List ℕ → ℕ → Result (TsigAlgorithm × ℕ) DecodeError
-algorithm_at m p = name_at m p (length m) >>= λ name. Ok (algorithm_of name.0, name.1)
+algorithm_at m p = name_at m p (length m) >>= λ name. Ok (tsig_algorithm_named name.0, name.1)
 
 -- ---- MACs
 

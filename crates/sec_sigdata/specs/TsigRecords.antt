@@ -8,16 +8,17 @@ use Rattle.dns_wire.specs.declared.error.EmitError.TheVariants.{TimeTooLarge, Ot
 use Rattle.dns_wire.specs.Octets.{two_octets, four_octets, six_octets}
 use Rattle.dns_names.specs.Names.{wire, low}
 use Rattle.dns_names.specs.NameText.{bare_name_text}
-use Rattle.dns_wire.specs.Reading.{ReadsUnless}
+use Rattle.dns_wire.specs.declared.decoder.BinDecoder.{BinDecoder}
+use Rattle.dns_wire.specs.Reading.{octets, place, ReadsUnless}
 use Rattle.dns_grammar.specs.Fields.{Two, Four, Number, Time, Counted, Kept, Value, Num, Str, Named, Field, any}
-use Rattle.dns_grammar.specs.RecordData.{data_at}
+use Rattle.dns_grammar.specs.RecordData.{one_type_data_at}
 use Rattle.dns_grammar.specs.Tables.{tsig_row}
 use Rattle.dns_grammar.specs.Messages.{TsigData, tsig_values}
 use Rattle.sec_sigdata.specs.declared.tsig.TSIG.{TSIG}
 use Rattle.sec_sigdata.specs.declared.tsig_algorithm.TsigAlgorithm.{TsigAlgorithm}
 use Rattle.sec_sigdata.specs.declared.tsig_error.TsigError.{TsigError}
-use Rattle.sec_sigdata.specs.declared.tsig_view.TsigView.{TsigView}
-use Rattle.sec_sigdata.specs.TsigAlgorithms.{algorithm_name, algorithm_of}
+use Rattle.sec_sigdata.specs.declared.borrowed_tsig.BorrowedTsig.{BorrowedTsig}
+use Rattle.sec_sigdata.specs.TsigAlgorithms.{algorithm_name, tsig_algorithm_named}
 use Rattle.sec_sigdata.specs.TsigErrors.{optional_number, optional_error}
 
 -- ---- data
@@ -35,8 +36,8 @@ pub record TsigFields : Type 0 where
 abbrev pub tsig_fields : TSIG → TsigFields
 tsig_fields tsig = record { algorithm = tsig.algorithm; time = tsig.time; fudge = tsig.fudge; mac = tsig.mac.items; oid = tsig.oid; error = tsig.error; other = tsig.other.items }
 
-abbrev pub view_fields : TsigView → TsigFields
-view_fields tsig = record { algorithm = tsig.algorithm; time = tsig.time; fudge = tsig.fudge; mac = tsig.mac.now; oid = tsig.oid; error = tsig.error; other = tsig.other.now }
+abbrev pub borrowed_fields : BorrowedTsig → TsigFields
+borrowed_fields tsig = record { algorithm = tsig.algorithm; time = tsig.time; fudge = tsig.fudge; mac = tsig.mac.now; oid = tsig.oid; error = tsig.error; other = tsig.other.now }
 
 -- the same with the algorithm's name and the error's number, as the record carries them
 abbrev pub fields_data : TsigFields → TsigData
@@ -46,16 +47,16 @@ fields_data tsig = record { algorithm = algorithm_name tsig.algorithm; time = ts
 abbrev pub tsig_data : TSIG → TsigData
 tsig_data tsig = fields_data (tsig_fields tsig)
 
-abbrev pub view_data : TsigView → TsigData
-view_data tsig = fields_data (view_fields tsig)
+abbrev pub borrowed_data : BorrowedTsig → TsigData
+borrowed_data tsig = fields_data (borrowed_fields tsig)
 
 -- the values of the fields
-abbrev pub view_values : TsigView → List Value
-view_values tsig = tsig_values (view_data tsig)
+abbrev pub borrowed_values : BorrowedTsig → List Value
+borrowed_values tsig = tsig_values (borrowed_data tsig)
 
 -- The algorithm and the error are those of their name and number: none with a name of its own is called unknown, and 0 is no error.
-pub record TsigIsNamed (tsig : TsigFields) : Type 0 where
-  pub algorithm : tsig.algorithm ≡ algorithm_of (algorithm_name tsig.algorithm)
+pub record TsigIsByNumber (tsig : TsigFields) : Type 0 where
+  pub algorithm : tsig.algorithm ≡ tsig_algorithm_named (algorithm_name tsig.algorithm)
   pub error : tsig.error ≡ optional_error (optional_number tsig.error)
 
 -- the numbers and octets fit the octets that they have in the record
@@ -65,9 +66,9 @@ pub record TsigFits (tsig : TsigFields) : Type 0 where
   pub other : length tsig.other < 2 ^ 16
 
 -- The answer is what reading the row gives, its values or the first fault, or want of memory.
-abbrev pub tsig_is_read : ℕ → List ℕ → ℕ → Result TSIG DecodeError → ℕ → Type 0
-tsig_is_read len m p result q =
-    ReadsUnless (λ tsig. tsig_values (tsig_data tsig)) result p q (data_at tsig_row m p len) × IfOk result (λ tsig. TsigIsNamed (tsig_fields tsig)) × IfOk result (λ tsig. TsigFits (tsig_fields tsig))
+abbrev pub tsig_is_read : ℕ → BinDecoder → BinDecoder → Result TSIG DecodeError → Type 0
+tsig_is_read len old new result =
+    ReadsUnless (λ tsig. tsig_values (tsig_data tsig)) result old new (one_type_data_at tsig_row (octets old) (place old) len) × IfOk result (λ tsig. TsigIsByNumber (tsig_fields tsig)) × IfOk result (λ tsig. TsigFits (tsig_fields tsig))
 
 -- ---- text
 

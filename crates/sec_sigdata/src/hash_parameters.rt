@@ -2,7 +2,7 @@
 ghost use Rattle.std.specs.Prelude.{◌≡◌, ◌≤◌, length, Some, IfOk};
 ghost use Rattle.dns_wire.specs.Reading.{octets, place, Gives, ReadsUnless};
 ghost use Rattle.dns_grammar.specs.Fields.{Num, no_fault, fields_at};
-ghost use Rattle.dns_grammar.specs.SignatureRows.{nsec3_flags_fault, hash_algorithm_fault, nsec3param_row};
+ghost use Rattle.sec_sigdata.specs.SignatureRows.{nsec3_flags_fault, hash_algorithm_fault, nsec3param_row};
 ghost use Rattle.sec_sigdata.specs.HashParameters.{hash_number, opt_out_flags, parameters_data, hash_values, hash_text, salt_text};
 
 use dns_text::UpperHex;
@@ -36,9 +36,7 @@ impl HashParameters {
     ) -> Result<HashParameters, DecodeError>
         requires ahead { place decoder.old ≤ end }
         requires inside { end ≤ length (octets decoder.old) }
-        ensures exact { ReadsUnless (λ parameters. hash_values (parameters_data parameters)) result (place decoder.old) (place decoder.new) (fields_at nsec3param_row (octets decoder.old) (place decoder.old) end) }
-        ensures octets { octets decoder.new ≡ octets decoder.old }
-        ensures forward { place decoder.old ≤ place decoder.new }
+        ensures exact { ReadsUnless (λ parameters. hash_values (parameters_data parameters)) result decoder.old decoder.new (fields_at nsec3param_row (octets decoder.old) (place decoder.old) end) }
         ensures inside { place decoder.new ≤ end }
     {
         let mut reader = *decoder;

@@ -4,17 +4,17 @@ ghost use Rattle.std.specs.List.{AllByRecursion};
 ghost use Rattle.dns_names.specs.Names.{IsName};
 ghost use Rattle.dns_types.specs.TypeSets.{is_bitmap};
 ghost use Rattle.dns_grammar.specs.Fields.{fields_octets, joined};
-ghost use Rattle.dns_grammar.specs.SignatureRows.{sig_row, nsec_row, nsec3_row, nsec3param_row};
+ghost use Rattle.sec_sigdata.specs.SignatureRows.{sig_row, nsec_row, nsec3_row, nsec3param_row};
 ghost use Rattle.dns_grammar.specs.Laws.{AreReadBack};
 ghost use Rattle.dns_grammar.specs.Messages.{tsig_values};
 ghost use Rattle.dns_grammar.specs.Tables.{tsig_row};
-ghost use Rattle.sec_sigdata.specs.Signatures.{SigData, input_row, input_values, sig_values, SigIsNamed, InputFits};
+ghost use Rattle.sec_sigdata.specs.Signatures.{SigData, input_row, input_values, sig_values, SigIsByNumber, InputFits};
 ghost use Rattle.sec_sigdata.specs.HashParameters.{HashData, hash_values};
 ghost use Rattle.sec_sigdata.specs.Nsec.{NsecData, nsec_values};
 ghost use Rattle.sec_sigdata.specs.Nsec3.{Nsec3Data, nsec3_values};
-ghost use Rattle.sec_sigdata.specs.TsigAlgorithms.{algorithm_name, algorithm_of, named_algorithms};
+ghost use Rattle.sec_sigdata.specs.TsigAlgorithms.{algorithm_name, tsig_algorithm_named, named_algorithms};
 ghost use Rattle.sec_sigdata.specs.TsigErrors.{error_number, error_of, optional_number, optional_error};
-ghost use Rattle.sec_sigdata.specs.TsigRecords.{TsigFields, TsigFits, TsigIsNamed, fields_data};
+ghost use Rattle.sec_sigdata.specs.TsigRecords.{TsigFields, TsigFits, TsigIsByNumber, fields_data};
 
 /// What is written of a SIG or of an RRSIG is read as data of the same fields.
 #[tactic(auto, using(crate::proofs::WrittenFields::signatures_back))]
@@ -57,11 +57,11 @@ pub fn tsig_is_read_back()
 /// their name.
 #[tactic(auto, using(crate::proofs::TheirFields::sig_told, crate::proofs::TheirFields::hash_told, crate::proofs::TheirFields::nsec_told, crate::proofs::TheirFields::nsec3_told, crate::proofs::TsigData::fields_told))]
 pub fn fields_tell_data()
-    ensures sig { (x y : SigData) → SigIsNamed x → SigIsNamed y → sig_values x ≡ sig_values y → x ≡ y }
+    ensures sig { (x y : SigData) → SigIsByNumber x → SigIsByNumber y → sig_values x ≡ sig_values y → x ≡ y }
     ensures hash { (x y : HashData) → hash_values x ≡ hash_values y → x ≡ y }
     ensures nsec { (x y : NsecData) → nsec_values x ≡ nsec_values y → x ≡ y }
     ensures nsec3 { (x y : Nsec3Data) → nsec3_values x ≡ nsec3_values y → x ≡ y }
-    ensures tsig { (x y : TsigFields) → TsigIsNamed x → TsigIsNamed y → tsig_values (fields_data x) ≡ tsig_values (fields_data y) → x ≡ y }
+    ensures tsig { (x y : TsigFields) → TsigIsByNumber x → TsigIsByNumber y → tsig_values (fields_data x) ≡ tsig_values (fields_data y) → x ≡ y }
 {}
 
 /// A number is that of its error, and also where 0 is none.
@@ -72,6 +72,6 @@ pub fn error_numbers_are_kept()
 
 /// A name is that of its algorithm, and an algorithm that has a name of its own is that of its name.
 pub fn algorithm_names_are_kept()
-    ensures name { (n : List (List ℕ)) → algorithm_name (algorithm_of n) ≡ n }
-    ensures algorithm { AllByRecursion (λ a. algorithm_of (algorithm_name a) ≡ a) named_algorithms }
+    ensures name { (n : List (List ℕ)) → algorithm_name (tsig_algorithm_named n) ≡ n }
+    ensures algorithm { AllByRecursion (λ a. tsig_algorithm_named (algorithm_name a) ≡ a) named_algorithms }
 {}

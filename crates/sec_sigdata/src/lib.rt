@@ -15,7 +15,7 @@ mod sig_input;
 mod tsig;
 mod tsig_algorithm;
 mod tsig_error;
-mod tsig_view;
+mod borrowed_tsig;
 mod type_list;
 
 pub use error::{DnsSecError, DnsSecResult};
@@ -28,4 +28,4 @@ pub use sig_input::SigInput;
 pub use tsig::TSIG;
 pub use tsig_algorithm::TsigAlgorithm;
 pub use tsig_error::TsigError;
-pub use tsig_view::TsigView;
+pub use borrowed_tsig::BorrowedTsig;

@@ -3,13 +3,13 @@ ghost use Rattle.std.specs.Prelude.{◌≡◌, ◌++◌, ◌∷◌, [], Some, If
 ghost use Rattle.dns_wire.specs.Reading.{ReadsUnless};
 ghost use Rattle.dns_types.specs.TypeSets.{form_of, is_one_of, types};
 ghost use Rattle.dns_grammar.specs.Fields.{fields_octets};
-ghost use Rattle.dns_grammar.specs.RecordData.{data_at};
-ghost use Rattle.dns_grammar.specs.SignatureRows.{nsec_row};
+ghost use Rattle.dns_grammar.specs.RecordData.{one_type_data_at};
+ghost use Rattle.sec_sigdata.specs.SignatureRows.{nsec_row};
 ghost use Rattle.sec_sigdata.specs.TypeLists as specs;
 ghost use Rattle.sec_sigdata.specs.Nsec.{nsec_data, nsec_values, nsec_text};
 
 use crate::type_list::{TypesText, is_ancestor_delegation};
-use dns_grammar::{Part, data_end, emit_parts};
+use dns_grammar::{FieldOut, data_end, emit_fields};
 use dns_names::Name;
 use dns_types::{RecordType, RecordTypeIter, RecordTypeSet};
 use dns_wire::{
@@ -107,14 +107,14 @@ impl NSEC {
 }
 
 impl<'r> RecordDataDecodable<'r> for NSEC {
-    ghost is_read = { λ len m p result q. ReadsUnless (λ nsec. nsec_values (nsec_data nsec)) result p q (data_at nsec_row m p len) };
+    ghost is_read = { λ len old new result. ReadsUnless (λ nsec. nsec_values (nsec_data nsec)) result old new (one_type_data_at nsec_row (octets old) (place old) len) };
 
     /// Reads the next name and the types.
     ///
     /// # Errors
     ///
     /// `InsufficientBytes` where an octet is needed past the data, `NameMalformed`, `BitmapMalformed`, or `OutOfMemory`.
-    #[tactic(auto, unfolding(dns_grammar::specs::RecordData::data_at, dns_grammar::specs::RecordData::row_at))]
+    #[tactic(auto, unfolding(dns_grammar::specs::RecordData::one_type_data_at, dns_grammar::specs::RecordData::fields_filling))]
     fn read_data(
         alloc: Global,
         decoder: &mut BinDecoder<'r>,
@@ -136,11 +136,11 @@ impl BinEncodable for NSEC {
     ghost written = { λ canonical _ nsec. fields_octets canonical nsec_row (nsec_values (nsec_data nsec)) };
 
     fn emit(&self, encoder: &mut BinEncoder) -> Result<(), EmitError> {
-        emit_parts(
+        emit_fields(
             encoder,
             &[
-                Part::Kept(&self.next_domain_name),
-                Part::Octets(self.types.as_octets()),
+                FieldOut::Kept(&self.next_domain_name),
+                FieldOut::Octets(self.types.as_octets()),
             ],
         )
     }

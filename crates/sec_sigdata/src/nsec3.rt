@@ -4,8 +4,8 @@ ghost use Rattle.std.specs.Option.{option_map};
 ghost use Rattle.dns_wire.specs.Reading.{ReadsUnless};
 ghost use Rattle.dns_types.specs.TypeSets.{form_of, is_one_of, types};
 ghost use Rattle.dns_grammar.specs.Fields.{fields_octets};
-ghost use Rattle.dns_grammar.specs.RecordData.{data_at};
-ghost use Rattle.dns_grammar.specs.SignatureRows.{nsec3_row};
+ghost use Rattle.dns_grammar.specs.RecordData.{one_type_data_at};
+ghost use Rattle.sec_sigdata.specs.SignatureRows.{nsec3_row};
 ghost use Rattle.sec_digest.specs.Base32.{hash_label};
 ghost use Rattle.sec_sigdata.specs.HashParameters.{opt_out_flags};
 ghost use Rattle.sec_sigdata.specs.TypeLists as specs;
@@ -14,7 +14,7 @@ ghost use Rattle.sec_sigdata.specs.Nsec3.{nsec3_data, nsec3_values, nsec3_text};
 use crate::hash_parameters::HashParameters;
 use crate::hashed_name::HashedName;
 use crate::type_list::{TypesText, is_ancestor_delegation};
-use dns_grammar::{Part, data_end, emit_parts};
+use dns_grammar::{FieldOut, data_end, emit_fields};
 use dns_names::Label;
 use dns_types::{RecordType, RecordTypeIter, RecordTypeSet};
 use dns_wire::{
@@ -157,7 +157,7 @@ impl NSEC3 {
 }
 
 impl<'r> RecordDataDecodable<'r> for NSEC3 {
-    ghost is_read = { λ len m p result q. ReadsUnless (λ nsec3. nsec3_values (nsec3_data nsec3)) result p q (data_at nsec3_row m p len) };
+    ghost is_read = { λ len old new result. ReadsUnless (λ nsec3. nsec3_values (nsec3_data nsec3)) result old new (one_type_data_at nsec3_row (octets old) (place old) len) };
 
     /// Reads hash algorithm, flags, iterations, salt, the next hash and the types.
     ///
@@ -165,7 +165,7 @@ impl<'r> RecordDataDecodable<'r> for NSEC3 {
     ///
     /// `InsufficientBytes` where an octet is needed past the data, `UnknownNsec3HashAlgorithm`, `UnrecognizedNsec3Flags`,
     /// `BitmapMalformed`, or `OutOfMemory`.
-    #[tactic(auto, unfolding(dns_grammar::specs::RecordData::data_at, dns_grammar::specs::RecordData::row_at))]
+    #[tactic(auto, unfolding(dns_grammar::specs::RecordData::one_type_data_at, dns_grammar::specs::RecordData::fields_filling))]
     fn read_data(
         alloc: Global,
         decoder: &mut BinDecoder<'r>,
@@ -190,18 +190,18 @@ impl BinEncodable for NSEC3 {
 
     fn emit(&self, encoder: &mut BinEncoder) -> Result<(), EmitError> {
         let parameters = &self.parameters;
-        emit_parts(
+        emit_fields(
             encoder,
             &[
-                Part::U8(parameters.hash_algorithm.into()),
-                Part::U8(parameters.flags()),
-                Part::U16(parameters.iterations),
-                Part::Counted8(parameters.salt.as_slice(), EmitError::SaltTooLong),
-                Part::Counted8(
+                FieldOut::U8(parameters.hash_algorithm.into()),
+                FieldOut::U8(parameters.flags()),
+                FieldOut::U16(parameters.iterations),
+                FieldOut::Counted8(parameters.salt.as_slice(), EmitError::SaltTooLong),
+                FieldOut::Counted8(
                     self.next_hashed_owner_name.as_slice(),
                     EmitError::HashTooLong,
                 ),
-                Part::Octets(self.types.as_octets()),
+                FieldOut::Octets(self.types.as_octets()),
             ],
         )
     }

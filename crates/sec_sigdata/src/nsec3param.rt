@@ -2,12 +2,12 @@
 ghost use Rattle.std.specs.Prelude.{◌≡◌, Some, IfOk};
 ghost use Rattle.dns_wire.specs.Reading.{ReadsUnless};
 ghost use Rattle.dns_grammar.specs.Fields.{fields_octets};
-ghost use Rattle.dns_grammar.specs.RecordData.{data_at};
-ghost use Rattle.dns_grammar.specs.SignatureRows.{nsec3param_row};
+ghost use Rattle.dns_grammar.specs.RecordData.{one_type_data_at};
+ghost use Rattle.sec_sigdata.specs.SignatureRows.{nsec3param_row};
 ghost use Rattle.sec_sigdata.specs.HashParameters.{opt_out_flags, nsec3param_data, hash_values, hash_text};
 
 use crate::hash_parameters::HashParameters;
-use dns_grammar::{Part, data_end, emit_parts, expect_end};
+use dns_grammar::{FieldOut, data_end, emit_fields, expect_end};
 use dns_wire::{
     BinDecoder, BinEncodable, BinEncoder, DecodeError, EmitError, Octets, OutOfMemory,
     RecordDataDecodable,
@@ -86,7 +86,7 @@ impl NSEC3PARAM {
 }
 
 impl<'r> RecordDataDecodable<'r> for NSEC3PARAM {
-    ghost is_read = { λ len m p result q. ReadsUnless (λ param. hash_values (nsec3param_data param)) result p q (data_at nsec3param_row m p len) };
+    ghost is_read = { λ len old new result. ReadsUnless (λ param. hash_values (nsec3param_data param)) result old new (one_type_data_at nsec3param_row (octets old) (place old) len) };
 
     /// Reads hash algorithm, flags, iterations and salt.
     ///
@@ -94,7 +94,7 @@ impl<'r> RecordDataDecodable<'r> for NSEC3PARAM {
     ///
     /// `InsufficientBytes` where an octet is needed past the data, `UnknownNsec3HashAlgorithm`, `UnrecognizedNsec3Flags`,
     /// `IncorrectRDataLengthRead` where octets are left over, or `OutOfMemory`.
-    #[tactic(auto, unfolding(dns_grammar::specs::RecordData::data_at, dns_grammar::specs::RecordData::row_at))]
+    #[tactic(auto, unfolding(dns_grammar::specs::RecordData::one_type_data_at, dns_grammar::specs::RecordData::fields_filling))]
     fn read_data(
         alloc: Global,
         decoder: &mut BinDecoder<'r>,
@@ -114,13 +114,13 @@ impl BinEncodable for NSEC3PARAM {
 
     fn emit(&self, encoder: &mut BinEncoder) -> Result<(), EmitError> {
         let parameters = &self.0;
-        emit_parts(
+        emit_fields(
             encoder,
             &[
-                Part::U8(parameters.hash_algorithm.into()),
-                Part::U8(parameters.flags()),
-                Part::U16(parameters.iterations),
-                Part::Counted8(parameters.salt.as_slice(), EmitError::SaltTooLong),
+                FieldOut::U8(parameters.hash_algorithm.into()),
+                FieldOut::U8(parameters.flags()),
+                FieldOut::U16(parameters.iterations),
+                FieldOut::Counted8(parameters.salt.as_slice(), EmitError::SaltTooLong),
             ],
         )
     }

@@ -1,7 +1,7 @@
 //! RRSIG records: signatures of record sets (RFC 4034 3).
 ghost use Rattle.std.specs.Prelude.{◌≡◌, Some, IfOk};
 ghost use Rattle.dns_grammar.specs.Fields.{fields_octets};
-ghost use Rattle.dns_grammar.specs.SignatureRows.{sig_row};
+ghost use Rattle.sec_sigdata.specs.SignatureRows.{sig_row};
 ghost use Rattle.sec_sigdata.specs.Signatures.{sig_data, rrsig_data, sig_values, sig_text, sig_is_read};
 
 use crate::sig::SIG;

@@ -1,11 +1,11 @@
 //! SIG records: signatures of messages (RFC 2931), and of record sets in the older form (RFC 2535 4).
 ghost use Rattle.std.specs.Prelude.{◌≡◌, Some, IfOk};
 ghost use Rattle.dns_grammar.specs.Fields.{fields_octets};
-ghost use Rattle.dns_grammar.specs.SignatureRows.{sig_row};
+ghost use Rattle.sec_sigdata.specs.SignatureRows.{sig_row};
 ghost use Rattle.sec_sigdata.specs.Signatures.{sig_data, sig_values, sig_text, sig_is_read};
 
 use crate::sig_input::{KindText, SigInput, TimesText};
-use dns_grammar::{Part, data_end, emit_parts};
+use dns_grammar::{FieldOut, data_end, emit_fields};
 use dns_names::Name;
 use dns_text::Base64Text;
 use dns_wire::{
@@ -72,7 +72,7 @@ impl<'r> RecordDataDecodable<'r> for SIG {
     /// # Errors
     ///
     /// `InsufficientBytes` where an octet is needed past the data, `NameMalformed`, or `OutOfMemory`.
-    #[tactic(auto, unfolding(dns_grammar::specs::RecordData::data_at, dns_grammar::specs::RecordData::row_at))]
+    #[tactic(auto, unfolding(dns_grammar::specs::RecordData::one_type_data_at, dns_grammar::specs::RecordData::fields_filling))]
     fn read_data(
         alloc: Global,
         decoder: &mut BinDecoder<'r>,
@@ -111,18 +111,18 @@ impl BinEncodable for SIG {
 
     fn emit(&self, encoder: &mut BinEncoder) -> Result<(), EmitError> {
         let input = &self.input;
-        emit_parts(
+        emit_fields(
             encoder,
             &[
-                Part::U16(input.type_covered.into()),
-                Part::U8(input.algorithm.into()),
-                Part::U8(input.num_labels),
-                Part::U32(input.original_ttl),
-                Part::U32(input.sig_expiration.0),
-                Part::U32(input.sig_inception.0),
-                Part::U16(input.key_tag),
-                Part::Lowered(&input.signer_name),
-                Part::Octets(self.sig.as_slice()),
+                FieldOut::U16(input.type_covered.into()),
+                FieldOut::U8(input.algorithm.into()),
+                FieldOut::U8(input.num_labels),
+                FieldOut::U32(input.original_ttl),
+                FieldOut::U32(input.sig_expiration.0),
+                FieldOut::U32(input.sig_inception.0),
+                FieldOut::U16(input.key_tag),
+                FieldOut::Lowered(&input.signer_name),
+                FieldOut::Octets(self.sig.as_slice()),
             ],
         )
     }

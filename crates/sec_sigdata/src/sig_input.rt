@@ -3,7 +3,7 @@ ghost use Rattle.std.specs.Prelude.{◌≡◌, Some};
 ghost use Rattle.dns_grammar.specs.Fields.{fields_octets};
 ghost use Rattle.sec_sigdata.specs.Signatures.{input_row, input_values, kind_text, times_text};
 
-use dns_grammar::{Part, emit_parts};
+use dns_grammar::{FieldOut, emit_fields};
 use dns_names::Name;
 use dns_types::RecordType;
 use dns_wire::{BinEncodable, BinEncoder, EmitError, SerialNumber};
@@ -36,17 +36,17 @@ impl BinEncodable for SigInput {
     ghost written = { λ canonical _ input. fields_octets canonical input_row (input_values input) };
 
     fn emit(&self, encoder: &mut BinEncoder) -> Result<(), EmitError> {
-        emit_parts(
+        emit_fields(
             encoder,
             &[
-                Part::U16(self.type_covered.into()),
-                Part::U8(self.algorithm.into()),
-                Part::U8(self.num_labels),
-                Part::U32(self.original_ttl),
-                Part::U32(self.sig_expiration.0),
-                Part::U32(self.sig_inception.0),
-                Part::U16(self.key_tag),
-                Part::Lowered(&self.signer_name),
+                FieldOut::U16(self.type_covered.into()),
+                FieldOut::U8(self.algorithm.into()),
+                FieldOut::U8(self.num_labels),
+                FieldOut::U32(self.original_ttl),
+                FieldOut::U32(self.sig_expiration.0),
+                FieldOut::U32(self.sig_inception.0),
+                FieldOut::U16(self.key_tag),
+                FieldOut::Lowered(&self.signer_name),
             ],
         )
     }

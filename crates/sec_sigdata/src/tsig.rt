@@ -4,12 +4,12 @@ ghost use Rattle.dns_wire.specs.Writing.{Writes};
 ghost use Rattle.dns_grammar.specs.Fields.{fields_octets};
 ghost use Rattle.dns_grammar.specs.Tables.{tsig_row};
 ghost use Rattle.dns_grammar.specs.Messages.{tsig_values};
-ghost use Rattle.sec_sigdata.specs.TsigRecords.{tsig_data, tsig_fields, view_fields, tsig_is_read, signed_text, error_text, tsig_text, variables_row, variables_values, written_variables};
+ghost use Rattle.sec_sigdata.specs.TsigRecords.{tsig_data, tsig_fields, borrowed_fields, tsig_is_read, signed_text, error_text, tsig_text, variables_row, variables_values, written_variables};
 
 use crate::tsig_algorithm::TsigAlgorithm;
 use crate::tsig_error::{TsigError, optional_number};
-use crate::tsig_view::TsigView;
-use dns_grammar::{Part, data_end, emit_parts};
+use crate::borrowed_tsig::BorrowedTsig;
+use dns_grammar::{FieldOut, data_end, emit_fields};
 use dns_names::Name;
 use dns_text::LowerHex;
 use dns_types::DNSClass;
@@ -89,10 +89,10 @@ impl TSIG {
     }
 
     /// The same data, borrowed.
-    pub fn view(&self) -> TsigView<'_>
-        ensures { view_fields result ≡ tsig_fields self.now }
+    pub fn borrowed(&self) -> BorrowedTsig<'_>
+        ensures { borrowed_fields result ≡ tsig_fields self.now }
     {
-        TsigView {
+        BorrowedTsig {
             algorithm: self.algorithm,
             time: self.time,
             fudge: self.fudge,
@@ -131,17 +131,17 @@ fn emit_variables<'a>(
 ) -> Result<(), EmitError>
     ensures { Writes result encoder.old encoder.new (fields_octets encoder.old.canonical_form variables_row (variables_values owner.now algorithm.now (tsig_data tsig.now))) }
 {
-    emit_parts(
+    emit_fields(
         encoder,
         &[
-            Part::Kept(owner),
-            Part::U16(DNSClass::ANY.into()),
-            Part::U32(0),
-            Part::Kept(algorithm),
-            Part::Time(tsig.time),
-            Part::U16(tsig.fudge),
-            Part::U16(optional_number(tsig.error)),
-            Part::Counted16(tsig.other.as_slice(), EmitError::OtherTooLong),
+            FieldOut::Kept(owner),
+            FieldOut::U16(DNSClass::ANY.into()),
+            FieldOut::U32(0),
+            FieldOut::Kept(algorithm),
+            FieldOut::Time(tsig.time),
+            FieldOut::U16(tsig.fudge),
+            FieldOut::U16(optional_number(tsig.error)),
+            FieldOut::Counted16(tsig.other.as_slice(), EmitError::OtherTooLong),
         ],
     )
 }
@@ -156,7 +156,7 @@ impl<'r> RecordDataDecodable<'r> for TSIG {
     /// `InsufficientBytes` where fewer octets are left than `length`, and for a `length` of 0. Then the first field that fails decides:
     /// `InsufficientBytes` where an octet is needed past the data, the faults of `Name::read_within` for the algorithm's name, and
     /// `IncorrectRDataLengthRead` where octets are left over. Or `OutOfMemory`.
-    #[tactic(auto, unfolding(dns_grammar::specs::RecordData::data_at))]
+    #[tactic(auto, unfolding(dns_grammar::specs::RecordData::one_type_data_at))]
     fn read_data(
         alloc: Global,
         decoder: &mut BinDecoder<'r>,
@@ -164,7 +164,7 @@ impl<'r> RecordDataDecodable<'r> for TSIG {
     ) -> Result<TSIG, DecodeError> {
         let end = data_end(decoder, length)?;
         // A `match`, since the check has no rule for `?` at a value that holds a name and a reference.
-        match TsigView::read_within(*decoder, end) {
+        match BorrowedTsig::read_within(*decoder, end) {
             Ok(view) => {
                 let mac = Vec::from_slice(alloc, view.mac)?;
                 let other = Vec::from_slice(alloc, view.other)?;
@@ -193,7 +193,7 @@ impl BinEncodable for TSIG {
     ///
     /// `TimeTooLarge` for a time of 2^48 or more, `MacTooLong` and `OtherTooLong` above 65,535 octets, in this order, or `OutOfMemory`.
     fn emit(&self, encoder: &mut BinEncoder) -> Result<(), EmitError> {
-        self.view().emit(encoder)
+        self.borrowed().emit(encoder)
     }
 }
 

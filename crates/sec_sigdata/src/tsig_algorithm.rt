@@ -3,7 +3,7 @@ ghost use Rattle.std.specs.Prelude.{◌≡◌, ◌<◌, ◌≤◌, ◌↔◌, []
 ghost use Rattle.dns_names.specs.NameText.{bare_name_text};
 ghost use Rattle.dns_wire.specs.Reading.{Reads, GivesUnless};
 ghost use Rattle.dns_names.specs.NameWriting.{name_octets};
-ghost use Rattle.sec_sigdata.specs.TsigAlgorithms.{algorithm_name, algorithm_among, algorithm_of, algorithm_at, hash_of, supported, algorithm_with, mac_of, checked_mac};
+ghost use Rattle.sec_sigdata.specs.TsigAlgorithms.{algorithm_name, algorithm_among, tsig_algorithm_named, algorithm_at, hash_of, supported, algorithm_with, mac_of, checked_mac};
 
 use crate::error::DnsSecError;
 use dns_names::{BareName, Label, Name};
@@ -130,7 +130,7 @@ impl TsigAlgorithm {
 
     /// The algorithm of a name, which must be spelled as the algorithm's, the case of letters included. Any other name is `Unknown`.
     pub fn from_name(name: Name) -> TsigAlgorithm
-        ensures algorithm { result ≡ algorithm_of name }
+        ensures algorithm { result ≡ tsig_algorithm_named name }
         ensures name { algorithm_name result ≡ name }
     {
         algorithm_among(&NAMED, name)
@@ -225,7 +225,7 @@ impl BinEncodable for TsigAlgorithm {
 }
 
 impl<'r> BinDecodable<'r> for TsigAlgorithm {
-    ghost is_read = { λ m p result q. Reads (λ a. a) result p q (algorithm_at m p) };
+    ghost is_read = { λ old new result. Reads (λ a. a) result old new (algorithm_at (octets old) (place old)) };
 
     /// Reads a name.
     ///

@@ -7,7 +7,7 @@ use Rattle.dns_wire.specs.declared.error.DecodeError.{DecodeError}
 use Rattle.dns_wire.specs.declared.error.DecodeError.TheVariants.{TsigNotLast}
 use Rattle.dns_wire.specs.Reading.{◌>>=◌}
 use Rattle.dns_grammar.specs.Fields.{Table, Value}
-use Rattle.dns_grammar.specs.RecordData.{tsig_type, rdata_at, row_at}
+use Rattle.dns_grammar.specs.RecordData.{tsig_type, rdata_at, fields_filling}
 use Rattle.dns_grammar.specs.Tables.{short_table, tsig_row}
 use Rattle.dns_grammar.specs.Messages.{RecordHead, ResourceRecord, TsigData, end_of, head_at, last_at, last_outline, record_at, tsig_values, with_data}
 
@@ -73,7 +73,7 @@ ends test table count m p h r q some e other f = rw (last_read table count m p h
     at (Err d) f = absurd cc
 
 -- the data of a transaction signature
-tsig_read : (m : List ℕ) (r len t : ℕ) (tsig : TsigData) → t ≡ tsig_type → r + len ≤ length m → len ≢ 0 → row_at tsig_row m r (r + len) ≡ Ok (tsig_values tsig)
+tsig_read : (m : List ℕ) (r len t : ℕ) (tsig : TsigData) → t ≡ tsig_type → r + len ≤ length m → len ≢ 0 → fields_filling tsig_row m r (r + len) ≡ Ok (tsig_values tsig)
     → rdata_at short_table m r len t ≡ Ok (Some (tsig_values tsig), r + len)
 unfolding rdata_at
 tsig_read m r len t tsig is fits some e =
@@ -83,7 +83,7 @@ tsig_read m r len t tsig is fits some e =
 
 -- a transaction signature as the last record
 pub signed : (test : ℕ → Bool) (count : ℕ) (m : List ℕ) (p : ℕ) (h : RecordHead) (r : ℕ) (tsig : TsigData) → count ≢ 0 → head_at m p ≡ Ok (h, r) → h.rtype ≡ tsig_type
-    → r + h.data_length ≤ length m → h.data_length ≢ 0 → row_at tsig_row m r (r + h.data_length) ≡ Ok (tsig_values tsig)
+    → r + h.data_length ≤ length m → h.data_length ≢ 0 → fields_filling tsig_row m r (r + h.data_length) ≡ Ok (tsig_values tsig)
     → last_outline test (last_at short_table count m p) ≡ Ok ((Some (record { start = h.start; name = h.name; tsig = tsig }), test h.rtype), r + h.data_length)
 signed test count m p h r tsig some e is fits full row =
     rw (last_read short_table count m p h r some e, tsig_read m r h.data_length h.rtype tsig is fits full row, is) refl

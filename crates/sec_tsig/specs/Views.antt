@@ -9,10 +9,10 @@ use Rattle.dns_wire.specs.declared.error.EmitError.TheVariants.{OutOfMemory as n
 use Rattle.dns_wire.specs.Writing.{Output}
 use Rattle.dns_wire.specs.Reading.{◌>>=◌, octets, place}
 use Rattle.dns_grammar.specs.Fields.{Field}
-use Rattle.dns_grammar.specs.RecordData.{row_at}
+use Rattle.dns_grammar.specs.RecordData.{fields_filling}
 use Rattle.dns_grammar.specs.Messages as grammar
 use Rattle.dns_grammar.specs.Messages.{ResourceRecord, TsigData, Signature, tsig_values}
-use Rattle.sec_sigdata.specs.TsigRecords.{view_data, view_fields, TsigFits, TsigIsNamed}
+use Rattle.sec_sigdata.specs.TsigRecords.{borrowed_data, borrowed_fields, TsigFits, TsigIsByNumber}
 use Rattle.sec_tsig.specs.declared.outline.Outline.{Outline}
 use Rattle.sec_tsig.specs.declared.parts.Header.{Header}
 use Rattle.sec_tsig.specs.declared.parts.RecordHead.{RecordHead}
@@ -25,7 +25,7 @@ abbrev pub head_view : RecordHead → grammar.RecordHead
 head_view h = record { start = h.start; name = h.name; rtype = h.rtype; dns_class = h.dns_class; ttl = h.ttl; data_length = h.length }
 
 abbrev pub signature_view : SignatureView → Signature
-signature_view s = record { start = s.start; name = s.name; tsig = view_data s.tsig }
+signature_view s = record { start = s.start; name = s.name; tsig = borrowed_data s.tsig }
 
 abbrev pub last_view : Option SignatureView × Bool → Option Signature × Bool
 last_view x = (option_map signature_view x.0, x.1)
@@ -36,8 +36,8 @@ outline_view o = (record { header = header_view o.header; signature = option_map
 
 -- the signature starts at this place or behind it, within the message, and is counted
 pub record IsPlaced (first : ℕ) (m : List ℕ) (header : Header) (s : SignatureView) : Type 0 where
-  pub fits : TsigFits (view_fields s.tsig)
-  pub named : TsigIsNamed (view_fields s.tsig)
+  pub fits : TsigFits (borrowed_fields s.tsig)
+  pub named : TsigIsByNumber (borrowed_fields s.tsig)
   pub ahead : first ≤ s.start
   pub inside : s.start ≤ length m
   pub counted : 1 ≤ header.additionals
@@ -48,7 +48,7 @@ is_one_of types rtype = list_any (λ t. t == rtype) types
 
 -- whether data fill the octets from p to e
 abbrev pub is_row : List Field → List ℕ → ℕ → ℕ → Result (Unit {0}) DecodeError
-is_row fields m p e = row_at fields m p e >>= λ _. Ok tt
+is_row fields m p e = fields_filling fields m p e >>= λ _. Ok tt
 
 -- the type of a record that is read
 abbrev pub type_at : Result (ResourceRecord × ℕ) DecodeError → Result (ℕ × ℕ) DecodeError

@@ -6,14 +6,14 @@ ghost use Rattle.dns_names.specs.Jumps.{AreJumps};
 ghost use Rattle.dns_grammar.specs.Tables.{short_table};
 ghost use Rattle.dns_grammar.specs.Messages.{all_pass, end_of, last_at, last_outline, outline_at, outline_behind, queries_at, record_at, records_at, type_passes};
 ghost use Rattle.sec_tsig.specs.Views.{header_view, is_one_of, last_view, outline_view, type_at, IsPlaced, Reaches, Yields};
-ghost use Rattle.sec_sigdata.specs.TsigRecords.{view_fields, TsigFits, TsigIsNamed};
+ghost use Rattle.sec_sigdata.specs.TsigRecords.{borrowed_fields, TsigFits, TsigIsByNumber};
 
 use crate::parts::{Header, RecordHead, skip_query};
 use crate::rdata::skip_rdata;
 use crate::signature_view::SignatureView;
 use dns_types::RecordType;
 use dns_wire::{BinDecoder, DecodeError};
-use sec_sigdata::TsigView;
+use sec_sigdata::BorrowedTsig;
 
 /// A message in its own octets, its lists left out.
 #[derive(Clone, Copy, Debug)]
@@ -49,9 +49,7 @@ pub(crate) fn skip_queries<'a>(
 fn skip_record(decoder: &mut BinDecoder<'_>, jumps: &mut [u16]) -> Result<RecordType, DecodeError>
     requires jumps { AreJumps (octets decoder.old) jumps.old }
     ensures jumps { AreJumps (octets decoder.old) jumps.new }
-    ensures exact { Reads (λ rtype. rtype) result (place decoder.old) (place decoder.new) (type_at (record_at short_table false (octets decoder.old) (place decoder.old))) }
-    ensures octets { octets decoder.new ≡ octets decoder.old }
-    ensures forward { place decoder.old ≤ place decoder.new }
+    ensures exact { Reads (λ rtype. rtype) result decoder.old decoder.new (type_at (record_at short_table false (octets decoder.old) (place decoder.old))) }
 {
     let mut reader = *decoder;
     let head = RecordHead::read_with(&mut reader, jumps)?;
@@ -90,10 +88,8 @@ fn read_last<'a>(
     count: u16,
     types: &[RecordType],
 ) -> Result<(Option<SignatureView<'a>>, bool), DecodeError>
-    ensures exact { Reads last_view result (place decoder.old) (place decoder.new) (last_outline (is_one_of types.now) (last_at short_table count (octets decoder.old) (place decoder.old))) }
-    ensures octets { octets decoder.new ≡ octets decoder.old }
-    ensures forward { place decoder.old ≤ place decoder.new }
-    ensures start { IfOk result (λ x. ForSome x.0 (λ s. (s.start ≡ place decoder.old) × (1 ≤ count) × TsigFits (view_fields s.tsig) × TsigIsNamed (view_fields s.tsig))) }
+    ensures exact { Reads last_view result decoder.old decoder.new (last_outline (is_one_of types.now) (last_at short_table count (octets decoder.old) (place decoder.old))) }
+    ensures start { IfOk result (λ x. ForSome x.0 (λ s. (s.start ≡ place decoder.old) × (1 ≤ count) × TsigFits (borrowed_fields s.tsig) × TsigIsByNumber (borrowed_fields s.tsig))) }
 {
     if count == 0 {
         return Ok((None, true));
@@ -111,7 +107,7 @@ fn read_last<'a>(
     }
     let end = reader.index() + usize::from(head.length);
     // A `match`, since the check has no rule for `?` at a value that holds a name and a reference.
-    match TsigView::read_within(reader, end) {
+    match BorrowedTsig::read_within(reader, end) {
         Ok(tsig) => {
             reader.set_index(end);
             *decoder = reader;

@@ -81,10 +81,8 @@ pub(crate) fn skip_query(decoder: &mut BinDecoder<'_>, jumps: &mut [u16]) -> Res
 impl RecordHead {
     /// Reads what stands before the data of a record.
     pub(crate) fn read(decoder: &mut BinDecoder<'_>) -> Result<RecordHead, DecodeError>
-        ensures exact { Reads head_view result (place decoder.old) (place decoder.new) (head_at (octets decoder.old) (place decoder.old)) }
+        ensures exact { Reads head_view result decoder.old decoder.new (head_at (octets decoder.old) (place decoder.old)) }
         ensures start { IfOk result (λ head. head.start ≡ place decoder.old) }
-        ensures octets { octets decoder.new ≡ octets decoder.old }
-        ensures forward { place decoder.old ≤ place decoder.new }
     {
         RecordHead::read_with(decoder, &mut [])
     }
@@ -97,10 +95,8 @@ impl RecordHead {
     ) -> Result<RecordHead, DecodeError>
         requires jumps { AreJumps (octets decoder.old) jumps.old }
         ensures jumps { AreJumps (octets decoder.old) jumps.new }
-        ensures exact { Reads head_view result (place decoder.old) (place decoder.new) (head_at (octets decoder.old) (place decoder.old)) }
+        ensures exact { Reads head_view result decoder.old decoder.new (head_at (octets decoder.old) (place decoder.old)) }
         ensures start { IfOk result (λ head. head.start ≡ place decoder.old) }
-        ensures octets { octets decoder.new ≡ octets decoder.old }
-        ensures forward { place decoder.old ≤ place decoder.new }
     {
         let mut reader = *decoder;
         let start = reader.index();

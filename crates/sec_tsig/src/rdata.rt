@@ -1,7 +1,7 @@
 //! The data of records, read or passed in the octets of a message.
 ghost use Rattle.std.specs.Prelude.{◌≡◌, ◌≤◌, length};
 ghost use Rattle.dns_wire.specs.Reading.{octets, place};
-ghost use Rattle.dns_grammar.specs.RecordData.{row_at, rdata_at};
+ghost use Rattle.dns_grammar.specs.RecordData.{fields_filling, rdata_at};
 ghost use Rattle.dns_grammar.specs.Tables.{a_row, short_table};
 ghost use Rattle.dns_grammar.specs.Messages.{end_of};
 ghost use Rattle.sec_tsig.specs.Views.{is_row, Passes};
@@ -9,10 +9,10 @@ ghost use Rattle.sec_tsig.specs.Views.{is_row, Passes};
 use dns_grammar::expect_end;
 use dns_types::RecordType;
 use dns_wire::{BinDecoder, DecodeError};
-use sec_sigdata::TsigView;
+use sec_sigdata::BorrowedTsig;
 
 /// Whether an address fills the octets up to `end`.
-#[tactic(auto, unfolding(dns_grammar::specs::RecordData::row_at))]
+#[tactic(auto, unfolding(dns_grammar::specs::RecordData::fields_filling))]
 fn check_a(mut reader: BinDecoder<'_>, end: usize) -> Result<(), DecodeError>
     requires ahead { place reader ≤ end }
     requires inside { end ≤ length (octets reader) }
@@ -24,7 +24,7 @@ fn check_a(mut reader: BinDecoder<'_>, end: usize) -> Result<(), DecodeError>
 }
 
 /// Whether data of a type fill the octets up to `end`.
-#[tactic(auto, unfolding(dns_grammar::specs::RecordData::row_at))]
+#[tactic(auto, unfolding(dns_grammar::specs::RecordData::fields_filling))]
 fn check_within(reader: BinDecoder<'_>, rtype: RecordType, end: usize) -> Result<(), DecodeError>
     requires ahead { place reader ≤ end }
     requires inside { end ≤ length (octets reader) }
@@ -33,7 +33,7 @@ fn check_within(reader: BinDecoder<'_>, rtype: RecordType, end: usize) -> Result
     if rtype == RecordType::A {
         check_a(reader, end)
     } else if rtype == RecordType::TSIG {
-        match TsigView::read_within(reader, end) {
+        match BorrowedTsig::read_within(reader, end) {
             Ok(_) => Ok(()),
             Err(fault) => Err(fault),
         }

@@ -24,9 +24,7 @@ fn read_set(
 ) -> Result<FirstSet, DecodeError>
     requires jumps { AreJumps (octets decoder.old) jumps.old }
     ensures jumps { AreJumps (octets decoder.old) jumps.new }
-    ensures exact { Reads (λ set. set) result (place decoder.old) (place decoder.new) (set_at section (octets decoder.old) (place decoder.old)) }
-    ensures octets { octets decoder.new ≡ octets decoder.old }
-    ensures forward { place decoder.old ≤ place decoder.new }
+    ensures exact { Reads (λ set. set) result decoder.old decoder.new (set_at section (octets decoder.old) (place decoder.old)) }
 {
     let mut reader = *decoder;
     let head = RecordHead::read_with(&mut reader, jumps)?;

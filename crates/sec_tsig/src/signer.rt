@@ -6,8 +6,8 @@ ghost use Rattle.sec_digest.specs.Hmac.{Feeds, mac_len};
 ghost use Rattle.sec_digest.specs.Mac.{mac_octets};
 ghost use Rattle.std.specs.Str.{bytes_eq};
 ghost use Rattle.dns_names.specs.Names.{wire};
-ghost use Rattle.sec_sigdata.specs.TsigAlgorithms.{algorithm_name, algorithm_of, algorithm_with};
-ghost use Rattle.sec_sigdata.specs.TsigRecords.{view_data, view_fields, TsigFits, TsigIsNamed};
+ghost use Rattle.sec_sigdata.specs.TsigAlgorithms.{algorithm_name, tsig_algorithm_named, algorithm_with};
+ghost use Rattle.sec_sigdata.specs.TsigRecords.{borrowed_data, borrowed_fields, TsigFits, TsigIsByNumber};
 ghost use Rattle.sec_tsig.specs.Views.{header_view, signature_view};
 ghost use Rattle.sec_tsig.specs.Tsig.{join, tsig_record};
 ghost use Rattle.sec_tsig.specs.Verdict.{has_signers_key};
@@ -23,7 +23,7 @@ use dns_names::Name;
 use dns_types::RecordType;
 use dns_wire::EmitError;
 use sec_digest::{Hmac, HmacHash, Mac};
-use sec_sigdata::{TsigAlgorithm, TsigView};
+use sec_sigdata::{TsigAlgorithm, BorrowedTsig};
 use std::alloc::{AllocError, Global};
 use std::fmt;
 use std::marker::Model;
@@ -91,7 +91,7 @@ impl From<EmitError> for FirstSignError {
 
 /// Whether an algorithm is HMAC with a hash function, the MAC not cut.
 fn is_hmac(algorithm: &TsigAlgorithm, hash: HmacHash) -> bool
-    requires { algorithm.now ≡ algorithm_of (algorithm_name algorithm.now) }
+    requires { algorithm.now ≡ tsig_algorithm_named (algorithm_name algorithm.now) }
     ensures { result ≡ bytes_eq (wire (algorithm_name (algorithm_with hash))) (wire (algorithm_name algorithm.now)) }
 {
     match algorithm.hmac_hash() {
@@ -160,20 +160,20 @@ impl FirstSigner {
 
     /// Whether a TSIG names the key and its algorithm.
     pub(crate) fn has_key_of(&self, signature: &SignatureView<'_>) -> bool
-        requires { TsigIsNamed (view_fields signature.now.tsig) }
+        requires { TsigIsByNumber (borrowed_fields signature.now.tsig) }
         ensures { result ≡ has_signers_key self.now (signature_view signature.now) }
     {
         self.name == signature.name && is_hmac(&signature.tsig.algorithm, self.algorithm)
     }
 
     /// The data of the TSIG record of a request with this ID.
-    fn request_tsig<'a>(&self, id: u16, time: u64, mac: &'a [u8]) -> TsigView<'a>
+    fn request_tsig<'a>(&self, id: u16, time: u64, mac: &'a [u8]) -> BorrowedTsig<'a>
         requires time { time < 2 ^ 48 }
         requires mac { length mac.now < 2 ^ 16 }
-        ensures value { view_data result ≡ request_tsig self.now time id mac.now }
-        ensures fits { TsigFits (view_fields result) }
+        ensures value { borrowed_data result ≡ request_tsig self.now time id mac.now }
+        ensures fits { TsigFits (borrowed_fields result) }
     {
-        TsigView {
+        BorrowedTsig {
             algorithm: TsigAlgorithm::from(self.algorithm),
             time,
             fudge: self.fudge,

@@ -7,7 +7,7 @@ ghost use Rattle.std.specs.Str.{bytes_eq};
 ghost use Rattle.dns_wire.specs.Reading.{GivesUnless};
 ghost use Rattle.sec_digest.specs.Mac.{mac_octets};
 ghost use Rattle.sec_tsig.specs.Views.{header_view, is_one_of, outline_view, signature_view, IsPlaced};
-ghost use Rattle.sec_sigdata.specs.TsigRecords.{view_fields, TsigFits};
+ghost use Rattle.sec_sigdata.specs.TsigRecords.{borrowed_fields, TsigFits};
 ghost use Rattle.sec_tsig.specs.Verdict.{expected_mac, is_in_time, signature_verdict, tsig_verdict};
 ghost use Rattle.sec_tsig.specs.Causes.{Judges};
 ghost use Rattle.sec_tsig.specs.FirstMessages.{answer_types, first_answer};
@@ -88,7 +88,7 @@ impl FirstVerifier {
 
     /// Whether a message was signed no earlier than the last one, and the request was sent within its window.
     fn is_in_time(&self, signature: &SignatureView<'_>) -> bool
-        requires { TsigFits (view_fields signature.now.tsig) }
+        requires { TsigFits (borrowed_fields signature.now.tsig) }
         ensures { result ≡ is_in_time self.now (signature_view signature.now) }
     {
         let time = signature.tsig.time;

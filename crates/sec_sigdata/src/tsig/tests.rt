@@ -1,5 +1,5 @@
 //! TSIG data read, written and printed, with octets spelled out from RFC 8945 4.2 and 4.3.
-use crate::{TSIG, TsigAlgorithm, TsigError, TsigView};
+use crate::{TSIG, TsigAlgorithm, TsigError, BorrowedTsig};
 use dns_names::Name;
 use dns_wire::{
     BinDecoder, BinEncodable, BinEncoder, DecodeError, EmitError, NameEncoding, RecordDataDecodable,
@@ -53,7 +53,7 @@ fn tsig_is_written_and_read(rt: HostRuntime) -> Result<(), Fail> {
 #[test]
 fn tsig_is_borrowed(rt: HostRuntime) -> Result<(), Fail> {
     let alloc = rt.alloc();
-    let Ok(view) = TsigView::read_within(BinDecoder::new(REFUSAL), 31) else {
+    let Ok(view) = BorrowedTsig::read_within(BinDecoder::new(REFUSAL), 31) else {
         return Err(Fail::from("not read"));
     };
     assert_eq!(rt; view.algorithm, TsigAlgorithm::HmacSha256);

@@ -1,4 +1,3 @@
-use Rattle.std.proofs.Common.{◌≤◌}
 use Rattle.dns_names.specs.Jumps.{LeadsTo}
 use Rattle.dns_names.proofs.jumps.chain_end.Given as goal
 

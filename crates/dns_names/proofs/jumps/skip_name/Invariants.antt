@@ -1,4 +1,4 @@
-use Rattle.std.proofs.Common.{◌+◌, ◌-◌, ◌*◌, length}
+use Rattle.std.proofs.Common.{◌+◌, ◌-◌, ◌*◌}
 use Rattle.dns_names.specs.Jumps.{AreJumps}
 use Rattle.dns_names.proofs.Chains.{SkipSoFar}
 use Rattle.dns_names.proofs.jumps.skip_name.Given as goal

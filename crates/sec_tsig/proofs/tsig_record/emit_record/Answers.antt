@@ -3,14 +3,14 @@ use Rattle.dns_wire.specs.Octets.{two_octets, four_octets}
 use Rattle.dns_names.specs.Names.{wire}
 use Rattle.dns_wire.specs.Writing.{Writes}
 use Rattle.dns_grammar.specs.RecordData.{tsig_type}
-use Rattle.sec_sigdata.specs.TsigRecords.{any_class, view_data}
+use Rattle.sec_sigdata.specs.TsigRecords.{any_class, borrowed_data}
 use Rattle.sec_sigdata.proofs.TsigData.{data_octets, data_written, data_length}
 use Rattle.sec_tsig.proofs.Records.{octets_of_record, piece_before, record_written}
 use Rattle.sec_tsig.proofs.tsig_record.emit_record.Goals as goal
 
 pub returns : goal.returns
 returns c =
-    let t = view_data c.args.tsig.now in
+    let t = borrowed_data c.args.tsig.now in
     let owner = c.args.owner.now in
     let new = c.emit.new.encoder in
     let fits = c.requires.fits in

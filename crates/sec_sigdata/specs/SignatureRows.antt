@@ -4,8 +4,7 @@ use Rattle.dns_wire.specs.declared.error.DecodeError.{DecodeError}
 use Rattle.dns_wire.specs.declared.error.DecodeError.TheVariants.{BitmapMalformed, UnknownNsec3HashAlgorithm, UnrecognizedNsec3Flags}
 use Rattle.dns_wire.specs.declared.error.EmitError.TheVariants.{SaltTooLong, HashTooLong}
 use Rattle.dns_types.specs.TypeSets.{is_bitmap}
-use Rattle.dns_grammar.specs.Fields.{One, Two, Four, Number, Counted, Rest, Lowered, Kept, Value, Num, Str, Field, Table, any}
-use Rattle.dns_grammar.specs.KeyRows.{key_table}
+use Rattle.dns_grammar.specs.Fields.{One, Two, Four, Number, Counted, Rest, Lowered, Kept, Value, Num, Str, Field, any}
 
 -- a set of types is a bitmap (RFC 4034 4.1.2)
 abbrev pub bitmap_fault : Value → Option DecodeError
@@ -50,14 +49,3 @@ nsec3_row = hash_algorithm ∷ nsec3_flags ∷ any (Number Two) ∷ any (Counted
 -- hash algorithm, flags, iterations, salt (RFC 5155 4.2)
 abbrev pub nsec3param_row : List Field
 nsec3param_row = hash_algorithm ∷ nsec3_flags ∷ any (Number Two) ∷ any (Counted One SaltTooLong) ∷ []
-
--- Signatures and denial are taken apart, by the numbers of their types (IANA, Resource Record TYPEs), and what the table of keys takes
--- apart: so all that this library knows of DNSSEC, and TSIG.
-abbrev pub security_table : Table
-security_table rtype =
-    if nat_eq rtype 24 then sig_row
-    else if nat_eq rtype 46 then sig_row
-    else if nat_eq rtype 47 then nsec_row
-    else if nat_eq rtype 50 then nsec3_row
-    else if nat_eq rtype 51 then nsec3param_row
-    else key_table rtype

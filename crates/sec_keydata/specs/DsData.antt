@@ -4,12 +4,13 @@ use Rattle.std.specs.Fmt.{decimal}
 use Rattle.sec_keydata.specs.OptionalAlgorithms.{optional_number, optional_algorithm}
 use Rattle.dns_text.specs.HexText.{upper_hex}
 use Rattle.dns_wire.specs.declared.error.DecodeError.{DecodeError}
-use Rattle.dns_wire.specs.Reading.{ReadsUnless}
-use Rattle.dns_grammar.specs.RecordData.{data_at}
-use Rattle.dns_grammar.specs.KeyRows.{ds_row}
+use Rattle.dns_wire.specs.declared.decoder.BinDecoder.{BinDecoder}
+use Rattle.dns_wire.specs.Reading.{octets, place, ReadsUnless}
+use Rattle.dns_grammar.specs.RecordData.{one_type_data_at}
+use Rattle.sec_keydata.specs.KeyRows.{ds_row}
 use Rattle.dns_grammar.specs.Fields.{Value, Num, Str}
 use Rattle.sec_codes.specs.declared.algorithm.Algorithm.{Algorithm}
-use Rattle.sec_codes.specs.Algorithms.{number, algorithm_of}
+use Rattle.sec_codes.specs.Algorithms.{number, algorithm_numbered}
 use Rattle.sec_digest.specs.declared.digest_type.DigestType.{DigestType}
 use Rattle.sec_digest.specs.Digests.{digest_number, digest_type}
 use Rattle.sec_keydata.specs.declared.digest_fields.DigestFields.{DigestFields}
@@ -53,13 +54,13 @@ abbrev pub ds_text : DsData → List ℕ
 ds_text ds = digest_text ds.key_tag (number ds.algorithm) (digest_number ds.digest_type) ds.digest
 
 -- The algorithm and the digest type are those of their numbers: none with a name of its own is called unknown.
-pub record DsIsNamed (ds : DsData) : Type 0 where
-  pub algorithm : ds.algorithm ≡ algorithm_of (number ds.algorithm)
+pub record DsIsByNumber (ds : DsData) : Type 0 where
+  pub algorithm : ds.algorithm ≡ algorithm_numbered (number ds.algorithm)
   pub digest_type : ds.digest_type ≡ digest_type (digest_number ds.digest_type)
 
 -- The answer is what reading the row gives, its values or the first fault, or want of memory.
-abbrev pub ds_is_read : ℕ → List ℕ → ℕ → Result DS DecodeError → ℕ → Type 0
-ds_is_read len m p result q = ReadsUnless (λ ds. ds_values (ds_data ds)) result p q (data_at ds_row m p len) × IfOk result (λ ds. DsIsNamed (ds_data ds))
+abbrev pub ds_is_read : ℕ → BinDecoder → BinDecoder → Result DS DecodeError → Type 0
+ds_is_read len old new result = ReadsUnless (λ ds. ds_values (ds_data ds)) result old new (one_type_data_at ds_row (octets old) (place old) len) × IfOk result (λ ds. DsIsByNumber (ds_data ds))
 
 -- ---- CDS
 
@@ -82,10 +83,10 @@ abbrev pub cds_text : CdsData → List ℕ
 cds_text cds = digest_text cds.key_tag (optional_number cds.algorithm) (digest_number cds.digest_type) cds.digest
 
 -- the algorithm and the digest type are those of their numbers
-pub record CdsIsNamed (cds : CdsData) : Type 0 where
+pub record CdsIsByNumber (cds : CdsData) : Type 0 where
   pub algorithm : cds.algorithm ≡ optional_algorithm (optional_number cds.algorithm)
   pub digest_type : cds.digest_type ≡ digest_type (digest_number cds.digest_type)
 
 -- The answer is what reading the row gives, its values or the first fault, or want of memory.
-abbrev pub cds_is_read : ℕ → List ℕ → ℕ → Result CDS DecodeError → ℕ → Type 0
-cds_is_read len m p result q = ReadsUnless (λ cds. cds_values (cds_data cds)) result p q (data_at ds_row m p len) × IfOk result (λ cds. CdsIsNamed (cds_data cds))
+abbrev pub cds_is_read : ℕ → BinDecoder → BinDecoder → Result CDS DecodeError → Type 0
+cds_is_read len old new result = ReadsUnless (λ cds. cds_values (cds_data cds)) result old new (one_type_data_at ds_row (octets old) (place old) len) × IfOk result (λ cds. CdsIsByNumber (cds_data cds))

@@ -1,14 +1,14 @@
 //! The one writer of record data: fields, one behind the other.
 ghost use Rattle.std.specs.Prelude.{◌≡◌, List};
 ghost use Rattle.dns_wire.specs.Writing.{Writes};
-ghost use Rattle.dns_grammar.specs.Parts.{part_octets, parts_octets, Grows};
+ghost use Rattle.dns_grammar.specs.FieldsOut.{field_out_octets, fields_out_octets, Grows};
 
 use dns_names::Name;
 use dns_wire::{BinEncoder, EmitError, time_octets};
 
 /// A field of record data that is to be written (RFC 1035 3.3).
 #[derive(Clone, Copy, Debug)]
-pub enum Part<'a> {
+pub enum FieldOut<'a> {
     /// A number in one octet.
     U8(u8),
     /// A number in two octets.
@@ -29,48 +29,48 @@ pub enum Part<'a> {
     Kept(&'a Name),
 }
 
-impl Part<'_> {
+impl FieldOut<'_> {
     fn emit(&self, encoder: &mut BinEncoder) -> Result<(), EmitError>
-        ensures { Writes result encoder.old encoder.new (part_octets encoder.old.canonical_form self.now) }
+        ensures { Writes result encoder.old encoder.new (field_out_octets encoder.old.canonical_form self.now) }
     {
         match *self {
-            Part::U8(n) => encoder.emit_u8(n),
-            Part::U16(n) => encoder.emit_u16(n),
-            Part::U32(n) => encoder.emit_u32(n),
-            Part::Time(time) => {
+            FieldOut::U8(n) => encoder.emit_u8(n),
+            FieldOut::U16(n) => encoder.emit_u16(n),
+            FieldOut::U32(n) => encoder.emit_u32(n),
+            FieldOut::Time(time) => {
                 if time >= 1 << 48 {
                     return Err(EmitError::TimeTooLarge);
                 }
                 encoder.emit_vec(&time_octets(time))
             }
-            Part::Octets(octets) => encoder.emit_vec(octets),
-            Part::Counted8(octets, too_long) => match u8::try_from(octets.len()) {
+            FieldOut::Octets(octets) => encoder.emit_vec(octets),
+            FieldOut::Counted8(octets, too_long) => match u8::try_from(octets.len()) {
                 Ok(count) => encoder.emit_both(&count.to_be_bytes(), octets),
                 Err(_) => Err(too_long),
             },
-            Part::Counted16(octets, too_long) => match u16::try_from(octets.len()) {
+            FieldOut::Counted16(octets, too_long) => match u16::try_from(octets.len()) {
                 Ok(count) => encoder.emit_both(&count.to_be_bytes(), octets),
                 Err(_) => Err(too_long),
             },
-            Part::Lowered(name) => {
+            FieldOut::Lowered(name) => {
                 if encoder.is_canonical_form() {
                     encoder.emit_vec(name.to_lowercase().as_wire())
                 } else {
                     encoder.emit_vec(name.as_wire())
                 }
             }
-            Part::Kept(name) => encoder.emit_vec(name.as_wire()),
+            FieldOut::Kept(name) => encoder.emit_vec(name.as_wire()),
         }
     }
 }
 
 /// Writes the fields up to the first that can't be written.
-#[tactic(auto, using(crate::proofs::PartLaws::put_none, crate::proofs::PartLaws::put_more, crate::proofs::PartLaws::put_fails, crate::proofs::PartLaws::put_all))]
-fn append_parts(encoder: &mut BinEncoder, parts: &[Part<'_>]) -> Result<(), EmitError>
-    ensures { Grows result encoder.old encoder.new (parts_octets encoder.old.canonical_form parts.now) }
+#[tactic(auto, using(crate::proofs::FieldOutLaws::put_none, crate::proofs::FieldOutLaws::put_more, crate::proofs::FieldOutLaws::put_fails, crate::proofs::FieldOutLaws::put_all))]
+fn append_fields(encoder: &mut BinEncoder, fields: &[FieldOut<'_>]) -> Result<(), EmitError>
+    ensures { Grows result encoder.old encoder.new (fields_out_octets encoder.old.canonical_form fields.now) }
 {
-    for part in parts {
-        part.emit(encoder)?;
+    for field in fields {
+        field.emit(encoder)?;
     }
     Ok(())
 }
@@ -79,12 +79,12 @@ fn append_parts(encoder: &mut BinEncoder, parts: &[Part<'_>]) -> Result<(), Emit
 ///
 /// The first field that can't be written is the cause: a time of 2^48 or more is `TimeTooLarge`, and counted octets name their own.
 /// Names heed the encoder's canonical form and not its name encoding.
-#[tactic(auto, using(crate::proofs::PartLaws::cut_back))]
-pub fn emit_parts(encoder: &mut BinEncoder, parts: &[Part<'_>]) -> Result<(), EmitError>
-    ensures { Writes result encoder.old encoder.new (parts_octets encoder.old.canonical_form parts.now) }
+#[tactic(auto, using(crate::proofs::FieldOutLaws::cut_back))]
+pub fn emit_fields(encoder: &mut BinEncoder, fields: &[FieldOut<'_>]) -> Result<(), EmitError>
+    ensures { Writes result encoder.old encoder.new (fields_out_octets encoder.old.canonical_form fields.now) }
 {
     let start = encoder.len();
-    let result = append_parts(encoder, parts);
+    let result = append_fields(encoder, fields);
     if result.is_err() {
         encoder.truncate(start);
     }

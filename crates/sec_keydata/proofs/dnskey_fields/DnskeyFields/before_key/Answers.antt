@@ -1,9 +1,9 @@
 use Rattle.std.proofs.Common.{◌≡◌, ◌++◌, ◌+◌, ℕ, List, length, take, refl, ap, sym, ◌∙◌, append_assoc, arith, length-append}
 use Rattle.std.proofs.lemmas.List.{take_at}
 use Rattle.dns_names.specs.Names.{wire, low}
-use Rattle.sec_keydata.specs.KeyFields.{fields_key}
+use Rattle.sec_keydata.specs.DnskeyFields.{fields_key}
 use Rattle.sec_keydata.specs.KeyTags.{dnskey_octets}
-use Rattle.sec_keydata.proofs.key_fields.KeyFields.before_key.Goals as goal
+use Rattle.sec_keydata.proofs.dnskey_fields.DnskeyFields.before_key.Goals as goal
 
 -- what stands in front after the two copies
 two_copies : (name head first second rest more : List ℕ) → first ≡ name → second ≡ head → length head ≡ 4

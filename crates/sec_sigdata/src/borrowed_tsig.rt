@@ -3,20 +3,20 @@ ghost use Rattle.std.specs.Prelude.{◌≡◌, ◌≤◌, length, IfOk};
 ghost use Rattle.dns_wire.specs.Reading.{octets, place, Gives};
 ghost use Rattle.dns_wire.specs.Writing.{Writes};
 ghost use Rattle.dns_grammar.specs.Fields.{fields_octets};
-ghost use Rattle.dns_grammar.specs.RecordData.{row_at};
+ghost use Rattle.dns_grammar.specs.RecordData.{fields_filling};
 ghost use Rattle.dns_grammar.specs.Tables.{tsig_row};
 ghost use Rattle.sec_sigdata.specs.TsigAlgorithms.{algorithm_name};
-ghost use Rattle.sec_sigdata.specs.TsigRecords.{view_data, view_fields, view_values, TsigFits, TsigIsNamed};
+ghost use Rattle.sec_sigdata.specs.TsigRecords.{borrowed_data, borrowed_fields, borrowed_values, TsigFits, TsigIsByNumber};
 
 use crate::tsig_algorithm::TsigAlgorithm;
 use crate::tsig_error::{TsigError, optional_error, optional_number};
-use dns_grammar::{Part, emit_parts, expect_end};
+use dns_grammar::{FieldOut, emit_fields, expect_end};
 use dns_names::Name;
 use dns_wire::{BinDecoder, BinEncoder, DecodeError, EmitError};
 
 /// The data of a TSIG record (RFC 8945 4.2), whose octets are borrowed.
 #[derive(Clone, Copy, Debug)]
-pub struct TsigView<'a> {
+pub struct BorrowedTsig<'a> {
     /// The algorithm of the MAC.
     pub algorithm: TsigAlgorithm,
     /// The time of signing, in seconds from 1970 on.
@@ -33,20 +33,20 @@ pub struct TsigView<'a> {
     pub other: &'a [u8],
 }
 
-impl<'a> TsigView<'a> {
+impl<'a> BorrowedTsig<'a> {
     /// Reads the data of a TSIG record, which fill the octets up to `end`. It takes no memory.
     ///
     /// # Errors
     ///
     /// The first field that fails decides: `InsufficientBytes` where an octet is needed past `end`, the faults of `Name::read_within` for
     /// the algorithm's name, and `IncorrectRDataLengthRead` where octets are left over.
-    #[tactic(auto, unfolding(dns_grammar::specs::RecordData::row_at))]
-    pub fn read_within(mut reader: BinDecoder<'a>, end: usize) -> Result<TsigView<'a>, DecodeError>
+    #[tactic(auto, unfolding(dns_grammar::specs::RecordData::fields_filling))]
+    pub fn read_within(mut reader: BinDecoder<'a>, end: usize) -> Result<BorrowedTsig<'a>, DecodeError>
         requires ahead { place reader ≤ end }
         requires inside { end ≤ length (octets reader) }
-        ensures exact { Gives view_values result (row_at tsig_row (octets reader.entry) (place reader.entry) end) }
-        ensures named { IfOk result (λ tsig. TsigIsNamed (view_fields tsig)) }
-        ensures fits { IfOk result (λ tsig. TsigFits (view_fields tsig)) }
+        ensures exact { Gives borrowed_values result (fields_filling tsig_row (octets reader.entry) (place reader.entry) end) }
+        ensures named { IfOk result (λ tsig. TsigIsByNumber (borrowed_fields tsig)) }
+        ensures fits { IfOk result (λ tsig. TsigFits (borrowed_fields tsig)) }
     {
         let start = reader.index();
         let algorithm = Name::read_within(&mut reader, end)?;
@@ -57,7 +57,7 @@ impl<'a> TsigView<'a> {
         let error = reader.read_u16_within(end)?;
         let other = reader.read_counted16_within(end)?;
         expect_end(&reader, start, end)?;
-        Ok(TsigView {
+        Ok(BorrowedTsig {
             algorithm: TsigAlgorithm::from_name(algorithm),
             time,
             fudge,
@@ -70,7 +70,7 @@ impl<'a> TsigView<'a> {
 
     /// The number of the error, and 0 for none (RFC 8945 4.2).
     pub fn error_number(&self) -> u16
-        ensures { result ≡ (view_data self.now).error }
+        ensures { result ≡ (borrowed_data self.now).error }
     {
         optional_number(self.error)
     }
@@ -82,31 +82,31 @@ impl<'a> TsigView<'a> {
     /// `TimeTooLarge` for a time of 2^48 or more, `MacTooLong` and `OtherTooLong` above 65,535 octets, in this order, or `OutOfMemory`. The
     /// encoder then stays as it was.
     pub fn emit(&self, encoder: &mut BinEncoder) -> Result<(), EmitError>
-        ensures { Writes result encoder.old encoder.new (fields_octets encoder.old.canonical_form tsig_row (view_values self.now)) }
+        ensures { Writes result encoder.old encoder.new (fields_octets encoder.old.canonical_form tsig_row (borrowed_values self.now)) }
     {
-        emit_fields(encoder, &self.algorithm.to_name(), self)
+        emit_with_algorithm(encoder, &self.algorithm.to_name(), self)
     }
 }
 
 /// Writes the data with the name of their algorithm.
-fn emit_fields<'a>(
+fn emit_with_algorithm<'a>(
     encoder: &mut BinEncoder,
     algorithm: &'a Name,
-    tsig: &'a TsigView<'a>,
+    tsig: &'a BorrowedTsig<'a>,
 ) -> Result<(), EmitError>
     requires { algorithm.now ≡ algorithm_name tsig.now.algorithm }
-    ensures { Writes result encoder.old encoder.new (fields_octets encoder.old.canonical_form tsig_row (view_values tsig.now)) }
+    ensures { Writes result encoder.old encoder.new (fields_octets encoder.old.canonical_form tsig_row (borrowed_values tsig.now)) }
 {
-    emit_parts(
+    emit_fields(
         encoder,
         &[
-            Part::Kept(algorithm),
-            Part::Time(tsig.time),
-            Part::U16(tsig.fudge),
-            Part::Counted16(tsig.mac, EmitError::MacTooLong),
-            Part::U16(tsig.oid),
-            Part::U16(tsig.error_number()),
-            Part::Counted16(tsig.other, EmitError::OtherTooLong),
+            FieldOut::Kept(algorithm),
+            FieldOut::Time(tsig.time),
+            FieldOut::U16(tsig.fudge),
+            FieldOut::Counted16(tsig.mac, EmitError::MacTooLong),
+            FieldOut::U16(tsig.oid),
+            FieldOut::U16(tsig.error_number()),
+            FieldOut::Counted16(tsig.other, EmitError::OtherTooLong),
         ],
     )
 }

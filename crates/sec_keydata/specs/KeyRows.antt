@@ -3,8 +3,7 @@ use Rattle.std.specs.Prelude.{List, [], ◌∷◌, Option, Some, None, nat_eq, i
 use Rattle.std.specs.Int.Bits.{bit_and}
 use Rattle.dns_wire.specs.declared.error.DecodeError.{DecodeError}
 use Rattle.dns_wire.specs.declared.error.DecodeError.TheVariants.{DnsKeyProtocolNot3, KeyFlagsReserved, ExtendedKeyFlagsUnsupported}
-use Rattle.dns_grammar.specs.Fields.{One, Two, Number, Rest, Value, Num, Field, Table, any}
-use Rattle.dns_grammar.specs.Tables.{short_table}
+use Rattle.dns_grammar.specs.Fields.{One, Two, Number, Rest, Value, Num, Field, any}
 
 -- the protocol of a DNSKEY is 3 (RFC 4034 2.1.2)
 abbrev pub protocol_fault : Value → Option DecodeError
@@ -29,13 +28,3 @@ ds_row = any (Number Two) ∷ any (Number One) ∷ any (Number One) ∷ any Rest
 -- a key of other uses (RFC 2535 3.1, RFC 3445 4): flags, protocol, algorithm, key
 abbrev pub key_row : List Field
 key_row = record { kind = Number Two; fault = key_flags_fault } ∷ any (Number One) ∷ any (Number One) ∷ any Rest ∷ []
-
--- Keys and their digests are taken apart, by the numbers of their types (IANA, Resource Record TYPEs), and what the short table takes apart.
-abbrev pub key_table : Table
-key_table rtype =
-    if nat_eq rtype 25 then key_row
-    else if nat_eq rtype 43 then ds_row
-    else if nat_eq rtype 48 then dnskey_row
-    else if nat_eq rtype 59 then ds_row
-    else if nat_eq rtype 60 then dnskey_row
-    else short_table rtype

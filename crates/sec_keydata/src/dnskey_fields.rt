@@ -4,8 +4,8 @@ ghost use Rattle.dns_names.specs.Names.{wire, low};
 ghost use Rattle.dns_wire.specs.Reading.{Gives};
 ghost use Rattle.sec_digest.specs.Digests.{digest_octets};
 ghost use Rattle.sec_keydata.specs.DnsKeys.{dnskey_data};
-ghost use Rattle.sec_keydata.specs.KeyDigests.{ds_digest, entry_key};
-ghost use Rattle.sec_keydata.specs.KeyFields.{fields_key};
+ghost use Rattle.sec_keydata.specs.KeyDigests.{ds_digest, secure_entry_key};
+ghost use Rattle.sec_keydata.specs.DnskeyFields.{fields_key};
 ghost use Rattle.sec_keydata.specs.KeyTags.{dnskey_octets, dnskey_tag};
 
 use crate::dnskey::DNSKEY;
@@ -18,18 +18,18 @@ use sec_digest::{Digest, DigestType};
 
 /// The fields of a DNSKEY: flags, algorithm, key. The protocol is 3.
 #[derive(Clone, Copy)]
-pub(crate) struct KeyFields<'a> {
+pub(crate) struct DnskeyFields<'a> {
     pub(crate) flags: u16,
     pub(crate) algorithm: Algorithm,
     pub(crate) public_key: &'a [u8],
 }
 
-impl<'a> KeyFields<'a> {
+impl<'a> DnskeyFields<'a> {
     /// The fields of a DNSKEY.
-    pub(crate) fn of(key: &'a DNSKEY) -> KeyFields<'a>
+    pub(crate) fn of(key: &'a DNSKEY) -> DnskeyFields<'a>
         ensures { fields_key result ≡ dnskey_data key.now }
     {
-        KeyFields {
+        DnskeyFields {
             flags: key.flags(),
             algorithm: key.public_key().algorithm(),
             public_key: key.public_key().public_bytes(),
@@ -37,10 +37,10 @@ impl<'a> KeyFields<'a> {
     }
 
     /// The fields of the DNSKEY of a public key: one of a zone, and a secure entry point.
-    pub(crate) fn entry<P: PublicKey>(public_key: &'a P) -> KeyFields<'a>
-        ensures { fields_key result ≡ entry_key (P.key public_key.now) }
+    pub(crate) fn secure_entry<P: PublicKey>(public_key: &'a P) -> DnskeyFields<'a>
+        ensures { fields_key result ≡ secure_entry_key (P.key public_key.now) }
     {
-        KeyFields {
+        DnskeyFields {
             flags: flags_of(true, true, false),
             algorithm: public_key.algorithm(),
             public_key: public_key.public_bytes(),

@@ -1,0 +1,2 @@
+//! Tests of the crates of DNSSEC and TSIG, by their public names.
+#![tactic(auto)]
