@@ -13,3 +13,4 @@ pub mod ReadAgain
 pub mod ExtentLaws
 pub mod StartLaws
 pub mod RecordBack
+pub mod RowReaderLaws

@@ -5,3 +5,4 @@ pub mod Messages
 pub mod Extents
 pub mod FieldsOut
 pub mod Laws
+pub mod RowReaders
