@@ -1,6 +1,7 @@
 //! Whole runs in memory. The MACs were computed by Python's `hmac`; the texts are written from `docs/SCRIPT.md`.
 
-use crate::{MemSink, MemSource, PlainSource, Status, run};
+use crate::run::run;
+use crate::{MemSink, MemSource, PlainSource, Status};
 use std::alloc::{AllocError, Global};
 use std::process::Abort;
 use std::str;

@@ -1,7 +1,7 @@
 use Rattle.std.proofs.Common.{◌<◌, length, sym, ◌∙◌, arith}
 use Rattle.std.proofs.lemmas.Bool.Decides.{nat_tests}
-use Rattle.dnscheck.proofs.Statements.{behind_skipped, from_kept}
-use Rattle.dnscheck.proofs.script.next_statement.Goals as goal
+use Rattle.dnscheck.proofs.ContentLines.{behind_skipped, from_kept}
+use Rattle.dnscheck.proofs.script.next_content_line.Goals as goal
 
 pub returns-then-not-is_skipped : goal.returns-then-not-is_skipped
 returns-then-not-is_skipped c =
