@@ -458,3 +458,15 @@ fn nothing_written(rt: HostRuntime) -> Result<(), Fail> {
     )?;
     Ok(())
 }
+
+#[test]
+fn input_up_to_the_limit(rt: HostRuntime) -> Result<(), Fail> {
+    let alloc = rt.alloc();
+    let check = words(alloc, "check")?;
+    let mut source = PlainSource::new(vec![in alloc; b'\n'; 16_777_216]?);
+    let mut sink = MemSink::new(room(alloc)?, Vec::new(alloc), 1000);
+    let status = run(alloc, &check, &mut source, &mut sink);
+    assert_eq!(rt; status, Status::ScriptFault);
+    assert_eq!(rt; sink.as_slice(), b"fault\n".as_slice());
+    Ok(())
+}
