@@ -1,6 +1,6 @@
 //! NSEC records: which name is next in a zone, and which types there are at this one (RFC 4034 4).
 ghost use Rattle.std.specs.Prelude.{◌≡◌, ◌++◌, ◌∷◌, [], Some, IfOk};
-ghost use Rattle.dns_wire.specs.Reading.{ReadsUnless};
+ghost use Rattle.dns_wire.specs.Reading.{octets, place, ReadsUnless};
 ghost use Rattle.dns_types.specs.TypeSets.{form_of, is_one_of, types};
 ghost use Rattle.dns_grammar.specs.Fields.{fields_octets};
 ghost use Rattle.dns_grammar.specs.RecordData.{one_type_data_at};

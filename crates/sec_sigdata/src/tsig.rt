@@ -6,9 +6,9 @@ ghost use Rattle.dns_grammar.specs.Tables.{tsig_row};
 ghost use Rattle.dns_grammar.specs.Messages.{tsig_values};
 ghost use Rattle.sec_sigdata.specs.TsigRecords.{tsig_data, tsig_fields, borrowed_fields, tsig_is_read, signed_text, error_text, tsig_text, variables_row, variables_values, written_variables};
 
+use crate::borrowed_tsig::BorrowedTsig;
 use crate::tsig_algorithm::TsigAlgorithm;
 use crate::tsig_error::{TsigError, optional_number};
-use crate::borrowed_tsig::BorrowedTsig;
 use dns_grammar::{FieldOut, data_end, emit_fields};
 use dns_names::Name;
 use dns_text::LowerHex;

@@ -1,18 +1,13 @@
 -- The lines of a script, and the words, numbers and octets in them.
-use Rattle.std.specs.Prelude.{ℕ, Bool, true, ◌||◌, ◌&&◌, not, ◌-◌, List, [], ◌∷◌, length, take, drop, filter, find, codes, slice_index, nat_lt, ◌==◌, if◌then◌else◌, Option, Some, None}
+use Rattle.std.specs.Prelude.{ℕ, Bool, true, ◌||◌, ◌&&◌, not, ◌-◌, List, [], ◌∷◌, length, take, drop, filter, find}
+use Rattle.std.specs.Prelude.{codes, slice_index, nat_lt, ◌==◌, if◌then◌else◌, Option, Some, None}
 use Rattle.std.specs.Char.{is_ascii_digit, is_ascii_graphic}
 use Rattle.std.specs.List.{onto_first, slice_split, list_all, position_or_len, after_first}
-use Rattle.std.specs.Option.{option_map_or}
+use Rattle.std.specs.Option.{option_and_then, option_map_or}
 use Rattle.std.specs.Result.{result_ok}
 use Rattle.std.specs.Str.{bytes_eq}
 use Rattle.std.specs.Str.Parse.{digits_value}
 use Rattle.hex.specs.Hex.{decode_of}
-
--- the second step, if the first gave a value
-infixl 10 ◌>>=◌
-abbrev pub ◌>>=◌ : {A B : Type 0} → Option A → (A → Option B) → Option B
-(Some x) >>= f = f x
-None >>= f = None
 
 abbrev pub tab : ℕ
 tab = 9
@@ -46,7 +41,8 @@ lines (octet ∷ octets) = if is_line_feed octet then [] ∷ lines octets else o
 
 -- One carriage return at a line's end is dropped.
 abbrev pub without_return : List ℕ → List ℕ
-without_return line = if slice_index line (length line - 1) == carriage_return then take (length line - 1) line else line
+without_return line = if slice_index line (length line - 1) == carriage_return then take (length line - 1) line
+    else line
 
 -- A line of blanks alone, or whose first other octet is `#`, is skipped.
 abbrev pub is_skipped : List ℕ → Bool
@@ -77,10 +73,8 @@ abbrev pub number_of : List ℕ → Option ℕ
 number_of word = if nat_lt 0 (length word) && list_all is_ascii_digit word then Some (digits_value 10 word) else None
 
 abbrev pub number_below : ℕ → List ℕ → Option ℕ
-number_below end word = do
-  number ← number_of word
-  if nat_lt number end then Some number else None
+number_below end word = option_and_then (λ number. if nat_lt number end then Some number else None) (number_of word)
 
 -- Octets are an even number of hexadecimal digits of either case, or `-`, which is none.
-abbrev pub octets_of : List ℕ → Option (List ℕ)
-octets_of word = if bytes_eq word (codes "-") then Some [] else result_ok (decode_of word)
+abbrev pub decode_hex : List ℕ → Option (List ℕ)
+decode_hex word = if bytes_eq word (codes "-") then Some [] else result_ok (decode_of word)

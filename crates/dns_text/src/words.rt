@@ -5,11 +5,12 @@
 ghost use Rattle.std.specs.Prelude.{◌≡◌, ◌∷◌, ◌<◌, [], not, position, find, IfOk, IfSome, MatchOption, length};
 ghost use Rattle.std.specs.List.{after_first, before_first, list_all};
 ghost use Rattle.std.specs.Option.{option_map};
-ghost use Rattle.dns_io.specs.Words.{is_line_feed, is_blank, is_text, is_skipped, lines, words, from_word, behind_word, without_return, number_below, octets_of, two_words, four_words};
+ghost use Rattle.dns_text.specs.Words.{is_line_feed, is_blank, is_text, is_skipped, lines, words, from_word};
+ghost use Rattle.dns_text.specs.Words.{behind_word};
+ghost use Rattle.dns_text.specs.Words.{without_return, number_below, decode_hex, two_words, four_words};
 
-use dns_wire::{Octets, OutOfMemory};
 use hex::FromHexError;
-use std::alloc::Global;
+use std::alloc::{AllocError, Global};
 
 fn is_blank(octet: u8) -> bool
     ensures { result ≡ is_blank octet }
@@ -39,7 +40,7 @@ fn word_at(line: &[u8]) -> Option<usize>
 }
 
 // The octet that the first word begins with.
-fn first_of_word(line: &[u8]) -> Option<u8>
+fn first_non_blank(line: &[u8]) -> Option<u8>
     ensures { result ≡ find (λ octet. not (is_blank octet)) line.now }
 {
     line.iter().copied().find(|octet| !is_blank(*octet))
@@ -71,7 +72,7 @@ pub fn without_return(line: &[u8]) -> &[u8]
 pub fn is_skipped(line: &[u8]) -> bool
     ensures { result ≡ is_skipped line.now }
 {
-    first_of_word(line).is_none_or(|octet| octet == b'#')
+    first_non_blank(line).is_none_or(|octet| octet == b'#')
 }
 
 /// Whether each octet of a line is a blank or an ASCII character that is seen.
@@ -164,15 +165,15 @@ pub fn number_below(end: u64, word: &[u8]) -> Option<u64>
 
 /// The octets that a word's hexadecimal digits write, of either case, or no octets at `-`; `None` at a word of another
 /// form.
-pub fn octets_of(alloc: Global, word: &[u8]) -> Result<Option<Octets>, OutOfMemory>
-    ensures { IfOk result (λ found. found ≡ octets_of word.now) }
+pub fn decode_hex(alloc: Global, word: &[u8]) -> Result<Option<Vec<u8>>, AllocError>
+    ensures { IfOk result (λ found. option_map (λ octets. octets.items) found ≡ decode_hex word.now) }
 {
     if word == b"-".as_slice() {
-        return Ok(Some(Octets::from_vec(Vec::new(alloc))));
+        return Ok(Some(Vec::new(alloc)));
     }
     match hex::decode(alloc, word) {
-        Ok(octets) => Ok(Some(Octets::from_vec(octets))),
-        Err(FromHexError::OutOfMemory) => Err(OutOfMemory),
+        Ok(octets) => Ok(Some(octets)),
+        Err(FromHexError::OutOfMemory) => Err(AllocError),
         Err(_) => Ok(None),
     }
 }

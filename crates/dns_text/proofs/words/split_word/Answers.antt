@@ -1,7 +1,7 @@
 use Rattle.std.proofs.Common.{◌≡◌, ◌<◌, length, arith}
 use Rattle.std.proofs.lemmas.Bool.Decides.{nat_tests}
-use Rattle.dns_io.proofs.Cuts.{no_words, first_word}
-use Rattle.dns_io.proofs.words.split_word.Goals as goal
+use Rattle.dns_text.proofs.Cuts.{no_words, first_word}
+use Rattle.dns_text.proofs.words.split_word.Goals as goal
 
 pub returns-then-is_empty-clause-words : goal.returns-then-is_empty-clause-words
 returns-then-is_empty-clause-words c =
