@@ -1,5 +1,5 @@
 -- One step of skipping a name, and of following a chain of pointers.
-use Rattle.std.proofs.Common.{◌≡◌, ℕ, zero, suc, ◌+◌, ◌-◌, ◌*◌, ◌<◌, ◌≤◌, List, [], ◌∷◌, ◌++◌, length, replicate, append_assoc, append-nil, slice_index, slice_range, refl, ap, sym, subst, ◌∙◌, arith, Result, Ok, Err, Option, Some, None, unwrap_or}
+use Rattle.std.proofs.Common.{◌≡◌, ℕ, zero, suc, ◌+◌, ◌-◌, ◌<◌, ◌≤◌, List, [], ◌∷◌, ◌++◌, length, replicate, append_assoc, append-nil, slice_index, slice_range, refl, ap, sym, subst, ◌∙◌, arith, Result, Ok, Err, Option, Some, None, unwrap_or}
 use Rattle.std.specs.Option.{option_or}
 use Rattle.std.proofs.lemmas.List.Edits.{length-between}
 use Rattle.dns_names.proofs.Pushed.{length-wire-push}

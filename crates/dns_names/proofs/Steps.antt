@@ -1,13 +1,9 @@
 -- One step of reading a name.
-use Rattle.std.proofs.Common.{◌≡◌, ℕ, zero, suc, ◌+◌, ◌-◌, ◌*◌, ◌<◌, ◌≤◌, List, [], ◌∷◌, ◌++◌, length, slice_index, slice_range, refl, ap, sym, ◌∙◌, append_assoc, append-nil, arith, Result, Ok, Err, Option, Some, None, unwrap_or}
+use Rattle.std.proofs.Common.{◌≡◌, ℕ, zero, suc, ◌+◌, ◌-◌, ◌<◌, ◌≤◌, List, [], length, slice_index, slice_range, ap, arith, Result, Ok, Err}
 use Rattle.std.proofs.lemmas.Bool.Decides.{nat_tests}
-use Rattle.std.proofs.lemmas.List.Edits.{length-between}
-use Rattle.std.specs.Option.{option_or}
-use Rattle.dns_names.proofs.Pushed.{length-wire-push}
 use Rattle.dns_wire.specs.declared.error.DecodeError.{DecodeError}
 use Rattle.dns_wire.specs.declared.error.DecodeError.TheVariants.{InsufficientBytes, NameMalformed}
-use Rattle.dns_names.specs.Names.{wire}
-use Rattle.dns_names.specs.Places.{pointer_target, read_octet, with_label, at_pointer, labels_at, name_at}
+use Rattle.dns_names.specs.Places.{pointer_target, read_octet, with_label, at_pointer, labels_at}
 
 abbrev pub Outcome : Type 0
 Outcome = Result (List (List ℕ) × ℕ) DecodeError

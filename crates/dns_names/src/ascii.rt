@@ -136,22 +136,34 @@ impl Name {
         Ok(self)
     }
 
-    /// The name that the text spells, fully qualified with or without a dot at its end (RFC 1035 5.1). A backslash and three decimal
-    /// digits are an octet, a backslash and another visible character that character. One dot is the root.
+    /// The name that the text spells, fully qualified with or without a dot at its end (RFC 1035 5.1). A backslash and
+    /// three decimal digits are an octet, a backslash and another visible character that character. One dot is the root.
     ///
     /// # Errors
     ///
-    /// The first fault from the left: `EmptyLabel` at two dots, at a dot at the front and for no text, `LabelTooLong` at the 64th
-    /// octet of a label, `NameTooLong` at the end of a label that brings the wire form above 255 octets, `BadEscape` at a backslash
-    /// before anything else, `BadCharacter` at a character that is not visible ASCII.
+    /// The first fault from the left: `EmptyLabel` at two dots, at a dot at the front and for no text, `LabelTooLong` at
+    /// the 64th octet of a label, `NameTooLong` at the end of a label that brings the wire form above 255 octets,
+    /// `BadEscape` at a backslash before anything else, `BadCharacter` at a character that is not visible ASCII.
     pub fn from_ascii(text: &str) -> Result<Name, NameError>
         ensures exact { result ≡ name_of text.now }
         ensures name { IfOk result IsName }
     {
-        if text == "." {
+        Name::from_ascii_octets(text.as_bytes())
+    }
+
+    /// The name that octets spell, as `from_ascii` of a text.
+    ///
+    /// # Errors
+    ///
+    /// Those of `from_ascii`; an octet above 126 is no visible character.
+    pub fn from_ascii_octets(text: &[u8]) -> Result<Name, NameError>
+        ensures exact { result ≡ name_of text.now }
+        ensures name { IfOk result IsName }
+    {
+        if text == b".".as_slice() {
             return Ok(Name::root());
         }
-        let name = spelled_name(text.as_bytes())?;
+        let name = spelled_name(text)?;
         // The length shows the proof that the value is a name.
         let _ = name.len();
         Ok(name)

@@ -2,7 +2,7 @@ use Rattle.std.proofs.Common.{◌≡◌, Bool, ◌&&◌, cond, true, Ok, false, 
 use Rattle.std.proofs.lemmas.Result.{err_from_is_err_and}
 use Rattle.std.specs.Cmp.Lexicographic.{pointwise}
 use Rattle.dns_names.specs.NameText.{name_of, labels_of}
-use Rattle.dns_names.proofs.name.Name.from_ascii.Goals as goal
+use Rattle.dns_names.proofs.name.Name.from_ascii_octets.Goals as goal
 
 -- a text other than one dot
 other : (text : List ℕ) → pointwise nat_eq text (46 ∷ []) ≡ false → labels_of (length text) [] [] text ≡ name_of text
@@ -18,7 +18,7 @@ other (c ∷ d ∷ rest) h = refl
 pub returns-in_err-name-clause-exact : goal.returns-in_err-name-clause-exact
 returns-in_err-name-clause-exact c =
     let p = err_from_is_err_and c.from_residual.result c.from_residual.ensures.1 in
-    rw (p.1, p.2) (c.in_err-name.ensures ∙ ap (λ t. labels_of (length t) [] [] t) c.as_bytes.ensures.value ∙ other c.args.text.now (sym c.eq.ensures ∙ c.if-eq.false))
+    rw (p.1, p.2) (c.in_err-name.ensures ∙ other c.args.text.now (ap (pointwise nat_eq c.args.text.now) (sym c.as_slice.ensures) ∙ sym c.eq.ensures ∙ c.if-eq.false))
 
 pub returns-clause-exact : goal.returns-clause-exact
-returns-clause-exact c = c.in_ok-name.ensures ∙ ap (λ t. labels_of (length t) [] [] t) c.as_bytes.ensures.value ∙ other c.args.text.now (sym c.eq.ensures ∙ c.if-eq.false)
+returns-clause-exact c = c.in_ok-name.ensures ∙ other c.args.text.now (ap (pointwise nat_eq c.args.text.now) (sym c.as_slice.ensures) ∙ sym c.eq.ensures ∙ c.if-eq.false)
