@@ -168,7 +168,7 @@ impl<'r> RecordDataDecodable<'r> for RecordTypeSet {
     ///
     /// # Errors
     ///
-    /// `InsufficientBytes` where fewer octets are left, then `BitmapMalformed` for octets that are no bitmap, and want
+    /// `InsufficientBytes` where fewer octets are left, then `BitmapMalformed` for octets that are no bitmap, or out
     /// of memory. The decoder then stays in place.
     fn read_data(
         alloc: Global,
