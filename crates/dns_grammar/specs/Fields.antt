@@ -3,7 +3,7 @@ use Rattle.std.specs.Prelude.{◌≡◌, Bool, true, false, ℕ, zero, suc, ◌-
 use Rattle.std.specs.Int.{Width, w8, w16, w32, to_be_bytes}
 use Rattle.dns_wire.specs.declared.error.DecodeError.{DecodeError}
 use Rattle.dns_wire.specs.declared.error.EmitError.{EmitError}
-use Rattle.dns_wire.specs.declared.error.EmitError.TheVariants.{TimeTooLarge, StringTooLong}
+use Rattle.dns_wire.specs.declared.error.EmitError.TheVariants.{OutOfMemory, TimeTooLarge, StringTooLong}
 use Rattle.dns_wire.specs.Octets.{six_octets}
 use Rattle.dns_names.specs.Names.{wire, low, Same}
 use Rattle.dns_names.specs.Places.{NameAt, name_at}
@@ -144,17 +144,25 @@ joined (Err e) y = Err e
 abbrev pub counted_octets : Size → EmitError → List ℕ → Result (List ℕ) EmitError
 counted_octets size too_long x = if nat_lt (length x) (limit size) then Ok (to_be_bytes (width size) (length x) ++ x) else Err too_long
 
--- strings, each behind its count
+-- the octets of each of these, one behind the other, or the first cause
+abbrev pub each_octets : {A : Type 0} → (A → Result (List ℕ) EmitError) → List A → Result (List ℕ) EmitError
+each_octets written [] = Ok []
+each_octets written (x ∷ xs) = joined (written x) (each_octets written xs)
+
+-- strings, each behind its count of one octet
 abbrev pub strings_octets : List (List ℕ) → Result (List ℕ) EmitError
-strings_octets [] = Ok []
-strings_octets (string ∷ strings) = joined (counted_octets One StringTooLong string) (strings_octets strings)
+strings_octets = each_octets (counted_octets One StringTooLong)
 
 -- a name, lowered in canonical form
 abbrev pub canonical_name : Bool → List (List ℕ) → List (List ℕ)
 canonical_name true n = low n
 canonical_name false n = n
 
--- The octets of a value in a field of a kind, in canonical form or not. A value of another kind has none.
+-- no octets: a writer of it can only want memory
+abbrev pub undefined : Result (List ℕ) EmitError
+undefined = Err OutOfMemory
+
+-- the octets of a value in a field of a kind, in canonical form or not; those of a value of another kind are undefined
 abbrev pub value_octets : Bool → Kind → Value → Result (List ℕ) EmitError
 value_octets canonical (Number size) (Num n) = Ok (to_be_bytes (width size) n)
 value_octets canonical Time (Num n) = if nat_lt n (2 ^ 48) then Ok (six_octets n) else Err TimeTooLarge
@@ -164,12 +172,14 @@ value_octets canonical Strings (Strs strings) = strings_octets strings
 value_octets canonical Rest (Str x) = Ok x
 value_octets canonical Lowered (Named n) = Ok (wire (canonical_name canonical n))
 value_octets canonical Kept (Named n) = Ok (wire n)
-value_octets canonical _ _ = Ok []
+value_octets canonical _ _ = undefined
 
--- the octets of these values, in canonical form or not, or the cause of the first that can't be written
+-- the octets of as many values as there are fields, in canonical form or not, or the cause of the first that can't be written
 abbrev pub fields_octets : Bool → List Field → List Value → Result (List ℕ) EmitError
-fields_octets canonical (field ∷ fields) (value ∷ values) = joined (value_octets canonical field.kind value) (fields_octets canonical fields values)
-fields_octets canonical _ _ = Ok []
+fields_octets canonical [] [] = Ok []
+fields_octets canonical (field ∷ fields) (value ∷ values) =
+    joined (value_octets canonical field.kind value) (fields_octets canonical fields values)
+fields_octets canonical _ _ = undefined
 
 -- ---- when values agree
 

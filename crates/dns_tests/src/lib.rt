@@ -1,8 +1,10 @@
-//! Tests of octets, names and types.
+//! Tests of octets, names, types and fields.
 #![tactic(auto)]
 
 #[cfg(test)]
 mod code_text;
+#[cfg(test)]
+mod grammar;
 #[cfg(test)]
 mod hierarchy;
 #[cfg(test)]

@@ -1,7 +1,7 @@
-//! Fields written and ends of data found, with octets spelled out from RFC 1035 4.1 and RFC 8945 4.2.
-use crate::{FieldOut, data_end, emit_fields, expect_end};
+//! Fields written and ends of data found, with octets spelled out from RFC 1035 3.3 and 4.1 and RFC 8945 4.2.
+use dns_grammar::{FieldOut, data_end, emit_fields, expect_end};
 use dns_names::Name;
-use dns_wire::{BinDecoder, BinEncoder, DecodeError, EmitError};
+use dns_wire::{BinDecoder, BinEncoder, DecodeError, EmitError, Octets};
 use std::test::Fail;
 
 #[test]
@@ -31,6 +31,28 @@ fn fields_are_written(rt: HostRuntime) -> Result<(), Fail> {
 }
 
 #[test]
+fn strings_are_written_behind_their_counts(rt: HostRuntime) -> Result<(), Fail> {
+    let alloc = rt.alloc();
+    let strings = [
+        Octets::from_slice(alloc, b"ab")?,
+        Octets::from_slice(alloc, &[])?,
+    ];
+    let mut encoder = BinEncoder::new(alloc);
+    emit_fields(&mut encoder, &[FieldOut::U8(9), FieldOut::Strings(&strings)])?;
+    assert_eq!(rt; encoder.as_slice(), [9u8, 2, b'a', b'b', 0].as_slice());
+    let long = [
+        Octets::from_slice(alloc, b"c")?,
+        Octets::from_slice(alloc, &[0; 256])?,
+    ];
+    assert_eq!(rt;
+        emit_fields(&mut encoder, &[FieldOut::Strings(&long)]),
+        Err(EmitError::StringTooLong)
+    );
+    assert_eq!(rt; encoder.len(), 5);
+    Ok(())
+}
+
+#[test]
 fn refused_fields_leave_nothing(rt: HostRuntime) -> Result<(), Fail> {
     let alloc = rt.alloc();
     let long = [0u8; 256];
@@ -45,7 +67,10 @@ fn refused_fields_leave_nothing(rt: HostRuntime) -> Result<(), Fail> {
         ],
     );
     assert_eq!(rt; salt, Err(EmitError::SaltTooLong));
-    let time = emit_fields(&mut encoder, &[FieldOut::Octets(&long), FieldOut::Time(1 << 48)]);
+    let time = emit_fields(
+        &mut encoder,
+        &[FieldOut::Octets(&long), FieldOut::Time(1 << 48)],
+    );
     assert_eq!(rt; time, Err(EmitError::TimeTooLarge));
     assert_eq!(rt; encoder.as_slice(), [5u8].as_slice());
     Ok(())
