@@ -1,8 +1,7 @@
 -- Messages are read exactly where they stand.
-use Rattle.std.proofs.Common.{◌≡◌, ◌⊎◌, inl, inr, ℕ, zero, suc, ◌-◌, true, false, ltb, eqb, List, [], ◌∷◌, ◌++◌, length, Option, Some, None, Result, Ok, refl, sym, ap, subst, ◌∙◌, arith, length-append}
+use Rattle.std.proofs.Common.{◌≡◌, ◌⊎◌, inl, inr, ℕ, zero, suc, true, false, ltb, eqb, List, [], ◌∷◌, length, Ok, refl, sym, ap, subst, ◌∙◌, arith}
 use Rattle.std.specs.List.{AllByRecursion}
 use Rattle.std.proofs.lemmas.Bool.{ltb-false, le-ltb, eqb-true}
-use Rattle.dns_wire.specs.declared.error.DecodeError.{DecodeError}
 use Rattle.dns_wire.specs.declared.error.DecodeError.TheVariants.{MessageTooLong}
 use Rattle.dns_grammar.specs.Fields.{Table}
 use Rattle.dns_grammar.specs.Messages.{Header, Query, ResourceRecord, Message, before_last, EachAt, QueryAt, RecordAt, NotTsig, HeaderAt, MessageAt, header_at, query_at, record_at, queries_at, records_at, additionals_at, body_at, sized_header_at, message_at}

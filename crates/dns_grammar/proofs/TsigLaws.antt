@@ -1,11 +1,11 @@
 -- The last additional of type TSIG has seven values.
-use Rattle.std.proofs.Common.{◌≡◌, ℕ, ◌+◌, true, eqb, List, [], ◌∷◌, ◌++◌, Option, Some, None, option_and_then, refl, ap, subst, ◌∙◌, eq-eqb}
+use Rattle.std.proofs.Common.{◌≡◌, ℕ, ◌+◌, true, eqb, List, [], ◌∷◌, Option, Some, None, option_and_then, refl, ap, subst, ◌∙◌, eq-eqb}
 use Rattle.dns_wire.specs.declared.error.EmitError.{EmitError}
 use Rattle.dns_wire.specs.declared.error.EmitError.TheVariants.{MacTooLong, OtherTooLong}
 use Rattle.dns_grammar.specs.Fields.{Size, Two, Number, Time, Counted, Kept, Value, Num, Str, Named, Table, row_of, ValueAt, FieldsAt}
 use Rattle.dns_grammar.specs.RecordData.{tsig_type, RDataAt}
 use Rattle.dns_grammar.specs.Tables.{IsTable, tsig_row}
-use Rattle.dns_grammar.specs.Messages.{ResourceRecord, last_of, EachAt, RecordAt, TsigData, tsig_values, signature_with, signature_from}
+use Rattle.dns_grammar.specs.Messages.{ResourceRecord, RecordAt, TsigData, tsig_values, signature_with, signature_from}
 use Rattle.dns_grammar.specs.Laws.{SignatureIsWhole}
 use Rattle.dns_grammar.proofs.EachLaws.{each_last}
 

@@ -27,12 +27,13 @@ pub fn signature_is_whole()
     ensures { (table : Table) → IsTable table → SignatureIsWhole table }
 {}
 
-/// What is written of values, of record data and of a record is read as the same.
+/// What is written of values, of record data, of a record and of a message is read as the same.
 pub fn written_is_read()
     ensures fields { (fields : List Field) → IsTrue (rest_is_last fields) → WrittenIsRead fields }
     ensures row { (fields : List Field) → IsTrue (rest_is_last fields) → WrittenRowIsRead fields }
     ensures data { (table : Table) → WrittenDataIsRead table }
     ensures record { (table : Table) → WrittenRecordIsRead table }
+    ensures message { (table : Table) → WrittenMessageIsRead table }
 {}
 
 /// Values and record data that were read can be written, and are then read again.
