@@ -15,3 +15,4 @@ pub mod StartLaws
 pub mod RecordBack
 pub mod RowReaderLaws
 pub mod MessageBack
+pub mod CheckLaws

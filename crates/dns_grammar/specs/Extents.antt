@@ -23,9 +23,9 @@ abbrev pub SignatureStartsInside : Table → Type 0
 SignatureStartsInside table = (m : List ℕ) (message : Message) (s : Signature) (e : ℕ)
     → HasTsig table m message s e → StartsInside m message s
 
--- Where a signature starts is seen from the octets before it, and from none behind: two messages m and n whose signatures
--- start at s and t, which agree in their flags and counts, and of which one begins the other from place 12 up to the
--- signature and some octets v or w instead, have one start.
+-- Where a signature starts is seen from the octets before it, and from none behind: two messages m and n whose
+-- signatures start at s and t, which agree in their flags and counts, and of which one begins the other from place 12
+-- up to the signature and some octets v or w instead, have one start.
 abbrev pub OneStart : Table → Type 0
 OneStart table = (m n : List ℕ) (message other : Message) (s t : Signature) (d e : ℕ) (v w : List ℕ)
     → HasTsig table m message s d

@@ -10,7 +10,8 @@ use Rattle.dns_wire.specs.declared.error.EmitError.TheVariants.{OutOfMemory, Tim
 use Rattle.dns_wire.specs.Octets.{six_octets}
 use Rattle.dns_names.specs.Names.{wire, low, Same}
 use Rattle.dns_names.specs.Places.{NameAt, name_at}
-use Rattle.dns_wire.specs.Reading.{◌>>=◌, octets_at, number_at, time_at, counted_at, OctetsAt, NumberAt, TimeAt, CountedAt}
+use Rattle.dns_wire.specs.Reading.{◌>>=◌, octets_at, number_at, time_at, counted_at, OctetsAt, NumberAt, TimeAt}
+use Rattle.dns_wire.specs.Reading.{CountedAt}
 
 -- ---- what a field is made of, and what it holds
 

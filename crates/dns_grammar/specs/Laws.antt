@@ -66,7 +66,8 @@ Holds _ _ = ⊥
 -- values that the fields may hold and allow
 abbrev pub HoldsAll : List Field → List Value → Type 0
 HoldsAll [] [] = Unit {0}
-HoldsAll (field ∷ fields) (value ∷ values) = Holds field.kind value × (field.fault value ≡ None) × HoldsAll fields values
+HoldsAll (field ∷ fields) (value ∷ values) =
+    Holds field.kind value × (field.fault value ≡ None) × HoldsAll fields values
 HoldsAll [] (_ ∷ _) = ⊥
 HoldsAll (_ ∷ _) [] = ⊥
 
@@ -93,7 +94,8 @@ abbrev pub ReadIsReadAgain : List Field → Type 0
 ReadIsReadAgain fields = (m : List ℕ) (p e : ℕ) (values : List Value)
     → AreOctets m → e ≤ length m → fields_filling fields m p e ≡ Ok values
     → (x : List ℕ) × (fields_octets false fields values ≡ Ok x)
-    × ((front back : List ℕ) → fields_filling fields (front ++ (x ++ back)) (length front) (length front + length x) ≡ Ok values)
+    × ((front back : List ℕ)
+    → fields_filling fields (front ++ (x ++ back)) (length front) (length front + length x) ≡ Ok values)
 
 -- What is written of the values of one known type, which is not empty, is read as data of the type with these values,
 -- wherever it stands.
@@ -102,7 +104,8 @@ WrittenRowIsRead fields = (values : List Value) (x front back : List ℕ)
     → HoldsAll fields values → 0 < length x → fields_octets false fields values ≡ Ok x
     → one_type_data_at fields (front ++ (x ++ back)) (length front) (length x) ≡ Ok (values, length front + length x)
 
--- These values of one known type can be written, and what is written of them is read as data of the type with these values.
+-- These values of one known type can be written, and what is written of them is read as data of the type with these
+-- values.
 abbrev pub AreReadBack : List Field → List Value → Type 0
 AreReadBack fields values = (x : List ℕ) × (fields_octets false fields values ≡ Ok x)
     × ((front back : List ℕ)

@@ -8,3 +8,4 @@ pub mod FieldsOut
 pub mod Laws
 pub mod RowReaders
 pub mod Checks
+pub mod FieldForms

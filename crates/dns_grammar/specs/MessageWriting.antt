@@ -1,4 +1,5 @@
--- Messages as octets (RFC 1035 4.1). Owners and questions heed how names are written, and record data the canonical form.
+-- Messages as octets (RFC 1035 4.1). Owners and questions heed how names are written, and record data the canonical
+-- form.
 use Rattle.std.specs.Prelude.{Bool, ℕ, List, ◌++◌, length, Result, Ok, Err, nat_lt, if◌then◌else◌}
 use Rattle.dns_wire.specs.declared.encoder.NameEncoding.{NameEncoding}
 use Rattle.dns_wire.specs.declared.error.EmitError.{EmitError}
@@ -39,8 +40,8 @@ record_octets canonical encoding table rr = do
   rdata ← fitting (rdata_octets canonical (row_of table rr.rtype) rr.rdata)
   Ok (head_octets encoding rr (length rdata) ++ rdata)
 
--- The octets of a message, or the first cause why there are none: CountTooLarge for more than 65,535 questions or records
--- of one part, and then that of the first record.
+-- The octets of a message, or the first cause why there are none: CountTooLarge for more than 65,535 questions or
+-- records of one part, and then that of the first record.
 abbrev pub message_octets : Bool → NameEncoding → Table → Message → Result (List ℕ) EmitError
 message_octets canonical encoding table message =
     joined (header_octets message)

@@ -1,5 +1,5 @@
--- Messages (RFC 1035 4.1), their record data by a table. A transaction signature stands only as the last additional record
--- (RFC 8945 5.2).
+-- Messages (RFC 1035 4.1), their record data by a table. A transaction signature stands only as the last additional
+-- record (RFC 8945 5.2).
 use Rattle.std.specs.Prelude.{◌≡◌, ◌≢◌, Bool, false, ℕ, zero, suc, ◌+◌, ◌≤◌, List, [], ◌∷◌, ◌++◌, length}
 use Rattle.std.specs.Prelude.{Option, Some, None, option_map, option_and_then, Result, Ok, Err}
 use Rattle.std.specs.Prelude.{nat_lt, nat_eq, ◌&&◌, not, if◌then◌else◌}
@@ -204,8 +204,8 @@ with_data head rdata = record {
   rdata = rdata;
 }
 
--- What reading a record at p gives, which is the last additional or not. TsigNotLast comes behind the length of the data,
--- and before InsufficientBytes for data that pass the end of m.
+-- What reading a record at p gives, which is the last additional or not. TsigNotLast comes behind the length of the
+-- data, and before InsufficientBytes for data that pass the end of m.
 unfoldable pub record_at : Table → Bool → List ℕ → ℕ → Result (ResourceRecord × ℕ) DecodeError
 record_at table is_last m p = do
   head ← head_at m p
@@ -251,8 +251,8 @@ body_at table m header p = do
 abbrev pub sized_header_at : List ℕ → Result (Header × ℕ) DecodeError
 sized_header_at m = if nat_lt 65535 (length m) then Err MessageTooLong else header_at m
 
--- What reading the message m gives: its parts and the place behind them, or the first fault. That is MessageTooLong for more
--- than 65535 octets, and then the fault of the first field from the left.
+-- What reading the message m gives: its parts and the place behind them, or the first fault. That is MessageTooLong for
+-- more than 65535 octets, and then the fault of the first field from the left.
 unfoldable pub message_at : Table → List ℕ → Result (Message × ℕ) DecodeError
 message_at table m = sized_header_at m >>= λ header. body_at table m header.0 header.1
 

@@ -1,5 +1,6 @@
 -- The data of a record (RFC 1035 3.2.1), by a table of the fields of each type.
-use Rattle.std.specs.Prelude.{◌≡◌, ◌≢◌, ℕ, ◌+◌, ◌-◌, ◌≤◌, ◌<◌, Bool, true, false, ◌&&◌, not, List, [], length, Option, Some, None}
+use Rattle.std.specs.Prelude.{◌≡◌, ◌≢◌, ℕ, ◌+◌, ◌-◌, ◌≤◌, ◌<◌, Bool, true, false, ◌&&◌, not, List, [], length, Option}
+use Rattle.std.specs.Prelude.{Some, None}
 use Rattle.std.specs.Prelude.{Result, Ok, Err, nat_lt, nat_eq, if◌then◌else◌}
 use Rattle.dns_wire.specs.declared.error.DecodeError.{DecodeError}
 use Rattle.dns_wire.specs.declared.error.DecodeError.TheVariants.{InsufficientBytes, IncorrectRDataLengthRead}
@@ -36,9 +37,9 @@ RDataAt table m p len rtype None = IsEmpty rtype len
 abbrev pub filled_by : ℕ → ℕ → List Value × ℕ → Result (List Value) DecodeError
 filled_by p e values = if nat_eq values.1 e then Ok values.0 else Err (IncorrectRDataLengthRead (values.1 - p) (e - p))
 
--- What reading these fields gives where they fill the octets from p up to e, or the first fault: that of the first field
--- from the left, and then IncorrectRDataLengthRead, with the octets of the fields and the length, where octets are left
--- over.
+-- What reading these fields gives where they fill the octets from p up to e, or the first fault: that of the first
+-- field from the left, and then IncorrectRDataLengthRead, with the octets of the fields and the length, where octets
+-- are left over.
 unfoldable pub fields_filling : List Field → List ℕ → ℕ → ℕ → Result (List Value) DecodeError
 fields_filling fields m p e = fields_at fields m p e >>= filled_by p e
 
@@ -50,8 +51,8 @@ one_type_data_at fields m p len =
     else if nat_eq len 0 then Err InsufficientBytes
     else (fields_filling fields m p (p + len) >>= λ values. Ok (values, p + len))
 
--- What reading the data of a record of this type gives, len octets from p, and the place behind them; or the first fault.
--- Every type but TSIG may have no data. Otherwise they are read as the data of their type.
+-- What reading the data of a record of this type gives, len octets from p, and the place behind them; or the first
+-- fault. Every type but TSIG may have no data. Otherwise they are read as the data of their type.
 unfoldable pub rdata_at : Table → List ℕ → ℕ → ℕ → ℕ → Result (Option (List Value) × ℕ) DecodeError
 rdata_at table m p len rtype =
     if nat_eq len 0 && not (nat_eq rtype tsig_type) then Ok (None, p)
@@ -73,8 +74,8 @@ abbrev pub fitting : Result (List ℕ) EmitError → Result (List ℕ) EmitError
 fitting (Ok octets) = if nat_lt 65535 (length octets) then Err DataTooLong else Ok octets
 fitting (Err cause) = Err cause
 
--- the octets of data of this type in canonical form (RFC 4034 6.2), or the first cause from the left why there are none,
--- at last DataTooLong
+-- the octets of data of this type in canonical form (RFC 4034 6.2), or the first cause from the left why there are
+-- none, at last DataTooLong
 abbrev pub canon : Table → ℕ → Option (List Value) → Result (List ℕ) EmitError
 canon table rtype rdata = fitting (rdata_octets true (row_of table rtype) rdata)
 

@@ -25,7 +25,8 @@ pub enum FieldOut<'a> {
     Counted8(&'a [u8], EmitError),
     /// Octets behind their count in two octets, and the cause where there are more than 65,535.
     Counted16(&'a [u8], EmitError),
-    /// Strings, each behind its count in one octet (RFC 1035 3.3.14); `StringTooLong` where one has more than 255 octets.
+    /// Strings, each behind its count in one octet (RFC 1035 3.3.14); `StringTooLong` where one has more than 255
+    /// octets.
     Strings(&'a [Octets]),
     /// A name that canonical form lowers (RFC 4034 6.2).
     Lowered(&'a Name),

@@ -6,7 +6,8 @@ ghost use Rattle.dns_grammar.specs.Extents.{SignatureStartsInside, OneStart};
 ghost use Rattle.dns_grammar.specs.Laws.{RowIsReadWhereItStands, DataIsReadWhereItStands, OneData, OneMessage};
 ghost use Rattle.dns_grammar.specs.Laws.{MessageIsReadWhereItStands, SignatureIsWhole, rest_is_last};
 ghost use Rattle.dns_grammar.specs.Laws.{WrittenIsRead, WrittenRowIsRead, WrittenDataIsRead, WrittenRecordIsRead};
-ghost use Rattle.dns_grammar.specs.Laws.{WrittenMessageIsRead, ReadIsReadAgain, ReadRowIsReadAgain, ReadDataIsReadAgain};
+ghost use Rattle.dns_grammar.specs.Laws.{WrittenMessageIsRead, ReadIsReadAgain, ReadRowIsReadAgain};
+ghost use Rattle.dns_grammar.specs.Laws.{ReadDataIsReadAgain};
 ghost use Rattle.dns_grammar.specs.Laws.{CanonicalIsPlain, AgreeingHaveOneForm};
 
 /// Record data are read exactly where they stand, and at most one stand at a place.
