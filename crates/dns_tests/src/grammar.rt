@@ -1,5 +1,7 @@
 //! Fields written and ends of data found, with octets spelled out from RFC 1035 3.3 and 4.1 and RFC 8945 4.2.
-use dns_grammar::{FieldOut, data_end, emit_fields, expect_end};
+use dns_grammar::{
+    FieldForm, FieldOut, TestedField, check_fields, check_rdata, check_row, data_end, emit_fields, expect_end, short_row,
+};
 use dns_names::Name;
 use dns_wire::{BinDecoder, BinEncoder, DecodeError, EmitError, Octets};
 use std::test::Fail;
@@ -92,5 +94,101 @@ fn data_end_where_their_length_says(rt: HostRuntime) -> Result<(), Fail> {
         expect_end(&reader, 1, 4),
         Err(DecodeError::IncorrectRDataLengthRead { read: 2, len: 3 })
     );
+    Ok(())
+}
+
+/// The protocol of a DNSKEY (RFC 4034 2.1.2), in its own octet.
+#[derive(Clone, Copy, Debug)]
+struct Protocol;
+
+impl TestedField for Protocol {
+    ghost use Rattle.dns_tests.specs.Protocols.{protocol_field};
+
+    ghost field = { λ _. protocol_field };
+
+    fn skip(&self, decoder: &mut BinDecoder<'_>, end: usize) -> Result<(), DecodeError> {
+        let mut reader = *decoder;
+        let protocol = reader.read_u8_within(end)?;
+        if protocol != 3 {
+            return Err(DecodeError::DnsKeyProtocolNot3(protocol));
+        }
+        *decoder = reader;
+        Ok(())
+    }
+}
+
+/// Flags, protocol, algorithm and key (RFC 4034 2.1).
+const DNSKEY: [FieldForm<Protocol>; 4] = [
+    FieldForm::U16,
+    FieldForm::Tested(Protocol),
+    FieldForm::U8,
+    FieldForm::Octets,
+];
+
+#[test]
+fn tested_fields_are_checked_in_turn(rt: HostRuntime) -> Result<(), Fail> {
+    let octets = [1u8, 0, 3, 5, 9, 9, 1, 0, 4, 5];
+    let mut reader = BinDecoder::new(&octets);
+    assert_eq!(rt; check_row(&mut reader, 6, &DNSKEY, &mut []), Ok(()));
+    assert_eq!(rt; reader.index(), 6);
+    assert_eq!(rt;
+        check_row(&mut reader, 4, &DNSKEY, &mut []),
+        Err(DecodeError::DnsKeyProtocolNot3(4))
+    );
+    assert_eq!(rt;
+        check_row(&mut reader, 2, &DNSKEY, &mut []),
+        Err(DecodeError::InsufficientBytes)
+    );
+    assert_eq!(rt; reader.index(), 6);
+    Ok(())
+}
+
+#[test]
+fn fields_of_each_form_are_checked(rt: HostRuntime) -> Result<(), Fail> {
+    let octets = [
+        7u8, 1, 44, 10, 11, 12, 13, 1, 2, 3, 4, 5, 6, 9, 9, 9, 1, 0xaa, 0, 2, 0xbb, 0xcc, 1, b'a', 0,
+        0xc0, 22, 1, b's', 0,
+    ];
+    let forms: [FieldForm<Protocol>; 10] = [
+        FieldForm::U8,
+        FieldForm::U16,
+        FieldForm::U32,
+        FieldForm::Time,
+        FieldForm::Fixed(3),
+        FieldForm::Counted8(EmitError::SaltTooLong),
+        FieldForm::Counted16(EmitError::MacTooLong),
+        FieldForm::Lowered,
+        FieldForm::Kept,
+        FieldForm::Strings,
+    ];
+    let mut reader = BinDecoder::new(&octets);
+    assert_eq!(rt; check_fields(&mut reader, 30, &forms, &mut []), Ok(()));
+    assert_eq!(rt; reader.index(), 30);
+    let mut short = BinDecoder::new(&octets);
+    assert_eq!(rt;
+        check_fields(&mut short, 26, &forms, &mut []),
+        Err(DecodeError::InsufficientBytes)
+    );
+    assert_eq!(rt; short.index(), 0);
+    Ok(())
+}
+
+#[test]
+fn data_are_checked_by_their_type(rt: HostRuntime) -> Result<(), Fail> {
+    let octets = [192u8, 0, 2, 1, 7];
+    let mut reader = BinDecoder::new(&octets);
+    assert_eq!(rt; check_rdata(&mut reader, 1, 4, short_row(1), &mut []), Ok(()));
+    assert_eq!(rt; reader.index(), 4);
+    assert_eq!(rt; check_rdata(&mut reader, 16, 0, short_row(16), &mut []), Ok(()));
+    assert_eq!(rt;
+        check_rdata(&mut reader, 250, 0, short_row(250), &mut []),
+        Err(DecodeError::InsufficientBytes)
+    );
+    let mut left_over = BinDecoder::new(&octets);
+    assert_eq!(rt;
+        check_rdata(&mut left_over, 1, 5, short_row(1), &mut []),
+        Err(DecodeError::IncorrectRDataLengthRead { read: 4, len: 5 })
+    );
+    assert_eq!(rt; check_rdata(&mut left_over, 16, 5, short_row(16), &mut []), Ok(()));
     Ok(())
 }
