@@ -1,10 +1,14 @@
-//! Tests of octets, names and types.
+//! Tests of texts, octets, names and types, by their public names.
 #![tactic(auto)]
 
 #[cfg(test)]
 mod code_text;
 #[cfg(test)]
 mod hierarchy;
+#[cfg(test)]
+mod io;
+#[cfg(test)]
+mod text;
 #[cfg(test)]
 mod traits;
 #[cfg(test)]

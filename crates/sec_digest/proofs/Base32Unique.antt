@@ -1,5 +1,6 @@
--- A base32 text tells its octets.
-use Rattle.std.proofs.Common.{◌≡◌, ℕ, zero, suc, ◌+◌, ◌-◌, ◌*◌, ◌/◌, ◌%◌, ◌^◌, ◌<◌, List, [], ◌∷◌, length, get_or, arith, ap, sym, ◌∙◌, add-zero}
+-- Equal base32 texts come from equal octets.
+use Rattle.std.proofs.Common.{◌≡◌, ℕ, zero, suc, ◌+◌, ◌-◌, ◌*◌, ◌/◌, ◌%◌, ◌^◌, ◌<◌, List, [], ◌∷◌, length, get_or}
+use Rattle.std.proofs.Common.{arith, ap, sym, ◌∙◌, add-zero}
 use Rattle.std.proofs.lemmas.List.FromFn.{length-map-range_with_len, get_or-map-range_with_len}
 use Rattle.std.proofs.lemmas.Nat.Bits.{bit_at-lt, same_from_bits_below}
 use Rattle.std.proofs.lemmas.Grind.{same_number_lists}
@@ -11,10 +12,18 @@ bit_of-lt : (x : List ℕ) (k : ℕ) → bit_of x k < 2
 bit_of-lt x k = bit_at-lt (get_or x (k / 8) 0) (7 - k % 8)
 
 five_bits-lt : (x : List ℕ) (p : ℕ) → five_bits x p < 32
-five_bits-lt x p = omega (arith, bit_of-lt x p, bit_of-lt x (p + 1), bit_of-lt x (p + 2), bit_of-lt x (p + 3), bit_of-lt x (p + 4))
+five_bits-lt x p = omega (
+  arith,
+  bit_of-lt x p,
+  bit_of-lt x (p + 1),
+  bit_of-lt x (p + 2),
+  bit_of-lt x (p + 3),
+  bit_of-lt x (p + 4),
+)
 
 -- two functions that are equal at five places
-at_five : (f g : ℕ → ℕ) (p j : ℕ) → f p ≡ g p → f (p + 1) ≡ g (p + 1) → f (p + 2) ≡ g (p + 2) → f (p + 3) ≡ g (p + 3) → f (p + 4) ≡ g (p + 4)
+at_five : (f g : ℕ → ℕ) (p j : ℕ) → f p ≡ g p → f (p + 1) ≡ g (p + 1) → f (p + 2) ≡ g (p + 2) → f (p + 3) ≡ g (p + 3)
+    → f (p + 4) ≡ g (p + 4)
     → j < 5 → f (p + j) ≡ g (p + j)
 at_five f g p zero e0 e1 e2 e3 e4 h = rw (add-zero p) e0
 at_five f g p (suc zero) e0 e1 e2 e3 e4 h = e1
@@ -53,22 +62,26 @@ as_long x y e =
     omega arith
 
 -- equal texts come from numbers of five bits that are equal
-digits_same : (x y : List ℕ) (i : ℕ) → base32 x ≡ base32 y → i < digit_count (length x) → five_bits x (5 * i) ≡ five_bits y (5 * i)
+digits_same : (x y : List ℕ) (i : ℕ) → base32 x ≡ base32 y → i < digit_count (length x)
+    → five_bits x (5 * i) ≡ five_bits y (5 * i)
 unfolding base32 digit_at
 digits_same x y i e h =
     let long : length x ≡ length y = as_long x y e in
     let here : i < digit_count (length y) = omega arith in
     same_number (five_bits x (5 * i)) (five_bits y (5 * i)) (five_bits-lt x (5 * i)) (five_bits-lt y (5 * i))
-    (sym (get_or-map-range_with_len (λ i. digit_of (five_bits x (5 * i))) 0 (digit_count (length x)) i i 0 h (omega arith))
+    (sym (get_or-map-range_with_len (λ i. digit_of (five_bits x (5 * i))) 0 (digit_count (length x)) i i 0 h
+    (omega arith))
     ∙ ap (λ (text : List ℕ). get_or text i 0) e
-    ∙ get_or-map-range_with_len (λ i. digit_of (five_bits y (5 * i))) 0 (digit_count (length y)) i i 0 here (omega arith))
+    ∙ get_or-map-range_with_len (λ i. digit_of (five_bits y (5 * i))) 0 (digit_count (length y)) i i 0 here
+    (omega arith))
 
 bits_same : (x y : List ℕ) (k : ℕ) → base32 x ≡ base32 y → k < 8 * length x → bit_of x k ≡ bit_of y k
 bits_same x y k e h =
     let place : 5 * (k / 5) + k % 5 ≡ k = omega arith in
     rw place at (five_same x y (5 * (k / 5)) (k % 5) (digits_same x y (k / 5) e (omega arith)) (omega arith))
 
-octet_same : (x y : List ℕ) (i : ℕ) → AreOctets x → AreOctets y → base32 x ≡ base32 y → i < length x → get_or x i 0 ≡ get_or y i 0
+octet_same : (x y : List ℕ) (i : ℕ) → AreOctets x → AreOctets y → base32 x ≡ base32 y → i < length x
+    → get_or x i 0 ≡ get_or y i 0
 octet_same x y i in_x in_y e h =
     same_from_bits_below 8 (get_or x i 0) (get_or y i 0) (octets-lt x i in_x) (octets-lt y i in_y)
     (λ b small.
@@ -77,5 +90,5 @@ octet_same x y i in_x in_y e h =
     rw (octet, bit) at (bits_same x y (8 * i + (7 - b)) e (omega arith)))
 
 -- equal texts come from equal octets
-pub told : (x y : List ℕ) → AreOctets x → AreOctets y → base32 x ≡ base32 y → x ≡ y
-told x y in_x in_y e = same_number_lists x y (as_long x y e) (λ i h. octet_same x y i in_x in_y e h)
+pub base32_unique : (x y : List ℕ) → AreOctets x → AreOctets y → base32 x ≡ base32 y → x ≡ y
+base32_unique x y in_x in_y e = same_number_lists x y (as_long x y e) (λ i h. octet_same x y i in_x in_y e h)
