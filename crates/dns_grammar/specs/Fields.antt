@@ -7,6 +7,7 @@ use Rattle.std.specs.Int.{Width, w8, w16, w32, to_be_bytes}
 use Rattle.dns_wire.specs.declared.error.DecodeError.{DecodeError}
 use Rattle.dns_wire.specs.declared.error.EmitError.{EmitError}
 use Rattle.dns_wire.specs.declared.error.EmitError.TheVariants.{OutOfMemory, TimeTooLarge, StringTooLong}
+use Rattle.dns_wire.specs.Lookup.{lookup}
 use Rattle.dns_wire.specs.Octets.{six_octets}
 use Rattle.dns_names.specs.Names.{wire, low, Same}
 use Rattle.dns_names.specs.Places.{NameAt, name_at}
@@ -70,11 +71,6 @@ any kind = record { kind = kind; fault = λ _. None }
 -- the types of records that are known, and the fields of each
 abbrev pub Table : Type 0
 Table = List (ℕ × List Field)
-
--- what the first entry of this number has
-abbrev pub lookup : {A : Type 0} → List (ℕ × A) → ℕ → Option A
-lookup [] n = None
-lookup (entry ∷ entries) n = if nat_eq n entry.0 then Some entry.1 else lookup entries n
 
 -- octets that nothing is known of (RFC 3597)
 abbrev pub unknown_row : List Field

@@ -1,3 +1,1 @@
-pub mod Cuts
 pub mod Loops
-pub mod Numbers

@@ -3,4 +3,3 @@ pub mod Memory
 pub mod Standard
 pub mod Status
 pub mod Transfer
-pub mod Words

@@ -1,6 +1,7 @@
 //! Sources and a sink in memory. They take no memory of their own. Their calls are counted from 1.
 
-ghost use Rattle.std.specs.Prelude.{◌≡◌, ◌≤◌, ◌<◌, ◌↔◌, ◌⊎◌, ◌≢◌, ◌+◌, ◌-◌, ◌++◌, [], length, take, min, Some, Contains, IsErr, IfOk, IsOkAnd, vec_len};
+ghost use Rattle.std.specs.Prelude.{◌≡◌, ◌≤◌, ◌<◌, ◌↔◌, ◌⊎◌, ◌≢◌, ◌+◌, ◌-◌, ◌++◌, [], length, take, min, Some};
+ghost use Rattle.std.specs.Prelude.{Contains, IsErr, IfOk, IsOkAnd, vec_len};
 ghost use Rattle.std.specs.Io.{ReadsAtMost, WritesAtMost};
 ghost use Rattle.std.specs.Io.KnownBytes.{ReadConsumes, WriteAppends};
 ghost use Rattle.dns_io.specs.Counts.{raised, CountsTaken, CountsFaults};
@@ -21,7 +22,8 @@ pub struct MemSource {
 }
 
 impl MemSource {
-    ghost use Rattle.dns_io.specs.Memory.{source_left, source_taken, source_calls, source_fails, source_step, source_faults};
+    ghost use Rattle.dns_io.specs.Memory.{source_left, source_taken, source_calls, source_fails, source_step};
+    ghost use Rattle.dns_io.specs.Memory.{source_faults};
 
     /// A source of `octets`, whose calls numbered in `fails` fail. It begins with its counts at 0.
     pub fn new(octets: Vec<u8>, fails: Vec<u64>, step: usize) -> MemSource
@@ -45,7 +47,8 @@ impl MemSource {
 }
 
 impl Source for MemSource {
-    ghost use Rattle.dns_io.specs.Memory.{source_left, source_calls, source_fails, source_step, source_faults, source_taken, SameSource};
+    ghost use Rattle.dns_io.specs.Memory.{source_left, source_calls, source_fails, source_step, source_faults};
+    ghost use Rattle.dns_io.specs.Memory.{source_taken, SameSource};
 
     ghost left = { λ s. Some (source_left s) };
 
@@ -148,8 +151,8 @@ pub struct MemSink {
 impl MemSink {
     ghost use Rattle.dns_io.specs.Memory.{sink_held, sink_room, sink_calls, sink_fails, sink_step, sink_faults};
 
-    /// A sink that holds nothing yet and has room for as many octets as `buffer` has. Its calls numbered in `fails` fail.
-    /// It begins with its counts at 0.
+    /// A sink that holds nothing yet and has room for as many octets as `buffer` has. Its calls numbered in `fails`
+    /// fail. It begins with its counts at 0.
     pub fn new(buffer: Vec<u8>, fails: Vec<u64>, step: usize) -> MemSink
         requires { 0 < step }
         ensures held { sink_held result ≡ [] }
@@ -178,7 +181,8 @@ impl MemSink {
 }
 
 impl Sink for MemSink {
-    ghost use Rattle.dns_io.specs.Memory.{sink_held, sink_room, sink_calls, sink_fails, sink_step, sink_faults, SameSink};
+    ghost use Rattle.dns_io.specs.Memory.{sink_held, sink_room, sink_calls, sink_fails, sink_step, sink_faults};
+    ghost use Rattle.dns_io.specs.Memory.{SameSink};
 
     ghost held = { λ s. Some (sink_held s) };
 

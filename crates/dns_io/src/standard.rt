@@ -2,11 +2,13 @@
 //! source and a sink, and what they do with their reader or writer is said by clauses of their own.
 
 ghost use Rattle.std.specs.Prelude.{◌≡◌, ◌<◌, None, length, IfOk};
+ghost use Rattle.std.specs.Result.{result_ok};
 ghost use Rattle.std.specs.Io.{ReadsAtMost, WritesAtMost};
 ghost use Rattle.std.specs.Io.KnownBytes.{ReadConsumes, WriteAppends};
 ghost use Rattle.dns_io.specs.Counts.{CountsTaken, CountsFaults};
 
 use crate::{Failed, Sink, Source};
+use std::io;
 use std::io::{Read, Write};
 
 /// A reader as a source.
@@ -18,7 +20,7 @@ pub struct StdSource<R> {
 }
 
 impl<R: Read> StdSource<R> {
-    ghost use Rattle.dns_io.specs.Standard.{reader_of, std_taken, std_source_faults};
+    ghost use Rattle.dns_io.specs.Standard.{reader_of, std_taken, std_source_faults, faults_after};
 
     /// Begins with both counts at 0.
     pub fn new(reader: R) -> StdSource<R>
@@ -32,10 +34,29 @@ impl<R: Read> StdSource<R> {
             faults: 0,
         }
     }
+
+    /// Passes on what the reader answered: its count, or one more fault for its error.
+    fn pass_on(&mut self, answer: io::Result<usize>) -> Result<usize, Failed>
+        ensures count { result_ok result ≡ result_ok answer }
+        ensures taken { CountsTaken (std_taken self.old) (std_taken self.new) answer }
+        ensures faults { std_source_faults self.new ≡ faults_after (std_source_faults self.old) (result_ok answer) }
+        ensures reader { reader_of self.new ≡ reader_of self.old }
+    {
+        match answer {
+            Ok(count) => {
+                self.taken = self.taken.saturating_add(count as u64);
+                Ok(count)
+            }
+            Err(_) => {
+                self.faults = self.faults.saturating_add(1);
+                Err(Failed)
+            }
+        }
+    }
 }
 
 impl<R: Read> Source for StdSource<R> {
-    ghost use Rattle.dns_io.specs.Standard.{reader_of, std_taken, std_source_faults};
+    ghost use Rattle.dns_io.specs.Standard.{reader_of, std_taken, std_source_faults, PassesRead};
 
     ghost left = { λ _. None };
 
@@ -49,20 +70,12 @@ impl<R: Read> Source for StdSource<R> {
         ensures taken { CountsTaken (std_taken self.old) (std_taken self.new) result }
         ensures faults { CountsFaults (std_source_faults self.old) (std_source_faults self.new) result }
 
-        // What is moved is what the reader gives.
-        ensures reader { ReadConsumes (R.remaining (reader_of self.old)) (R.remaining (reader_of self.new))
-            result buf.new }
+        // What is moved is what the reader gives, and a failure is the reader's.
+        ensures reader { PassesRead (R.remaining (reader_of self.old)) (R.remaining (reader_of self.new))
+            buf.new result (std_source_faults self.old) (std_source_faults self.new) }
     {
-        match self.reader.read(buf) {
-            Ok(count) => {
-                self.taken = self.taken.saturating_add(count as u64);
-                Ok(count)
-            }
-            Err(_) => {
-                self.faults = self.faults.saturating_add(1);
-                Err(Failed)
-            }
-        }
+        let answer = self.reader.read(buf);
+        self.pass_on(answer)
     }
 }
 
@@ -74,7 +87,7 @@ pub struct StdSink<W> {
 }
 
 impl<W: Write> StdSink<W> {
-    ghost use Rattle.dns_io.specs.Standard.{writer_of, std_sink_faults};
+    ghost use Rattle.dns_io.specs.Standard.{writer_of, std_sink_faults, faults_after, count_written};
 
     /// Begins with its count at 0.
     pub fn new(writer: W) -> StdSink<W>
@@ -83,10 +96,26 @@ impl<W: Write> StdSink<W> {
     {
         StdSink { writer, faults: 0 }
     }
+
+    /// Passes on what the writer answered for `len` octets: its count, or one more fault for its error, and for a count
+    /// of 0 where there were some.
+    fn pass_on(&mut self, answer: io::Result<usize>, len: usize) -> Result<usize, Failed>
+        ensures count { result_ok result ≡ count_written len answer }
+        ensures faults { std_sink_faults self.new ≡ faults_after (std_sink_faults self.old) (count_written len answer) }
+        ensures writer { writer_of self.new ≡ writer_of self.old }
+    {
+        match answer {
+            Ok(count) if count > 0 || len == 0 => Ok(count),
+            _ => {
+                self.faults = self.faults.saturating_add(1);
+                Err(Failed)
+            }
+        }
+    }
 }
 
 impl<W: Write> Sink for StdSink<W> {
-    ghost use Rattle.dns_io.specs.Standard.{writer_of, std_sink_faults};
+    ghost use Rattle.dns_io.specs.Standard.{writer_of, std_sink_faults, PassesWrite};
 
     ghost held = { λ _. None };
 
@@ -99,16 +128,11 @@ impl<W: Write> Sink for StdSink<W> {
         ensures octets { WriteAppends None None result buf.now }
         ensures faults { CountsFaults (std_sink_faults self.old) (std_sink_faults self.new) result }
 
-        // What is appended is what the writer takes.
-        ensures writer { WriteAppends (W.contents (writer_of self.old)) (W.contents (writer_of self.new))
-            result buf.now }
+        // What is appended is what the writer takes, and a failure is the writer's.
+        ensures writer { PassesWrite (W.contents (writer_of self.old)) (W.contents (writer_of self.new))
+            buf.now result (std_sink_faults self.old) (std_sink_faults self.new) }
     {
-        match self.writer.write(buf) {
-            Ok(count) if count > 0 || buf.is_empty() => Ok(count),
-            _ => {
-                self.faults = self.faults.saturating_add(1);
-                Err(Failed)
-            }
-        }
+        let answer = self.writer.write(buf);
+        self.pass_on(answer, buf.len())
     }
 }

@@ -41,7 +41,7 @@ impl From<AllocError> for ReadError {
 
 /// All the octets of a source, up to its end. At most `INPUT_LIMIT` + 1 octets are ever taken.
 pub fn read_all<S: Source>(alloc: Global, source: &mut S) -> Result<Vec<u8>, ReadError>
-    // What the source tells decides, but for a failed read and for want of memory.
+    // What the source tells decides, but for a failed read and where memory is out.
     ensures told { ReadsAll result (S.left source.old) }
     ensures end { OnOk result (IsAtEnd (S.left source.new)) }
     ensures taken { IfOk result (λ content. S.taken source.new ≡ raised (S.taken source.old) (vec_len content)) }

@@ -1,4 +1,4 @@
-//! Tests of octets, names, types and fields.
+//! Tests of texts, octets, names, types and fields, by their public names.
 #![tactic(auto)]
 
 #[cfg(test)]
@@ -7,6 +7,10 @@ mod code_text;
 mod grammar;
 #[cfg(test)]
 mod hierarchy;
+#[cfg(test)]
+mod io;
+#[cfg(test)]
+mod text;
 #[cfg(test)]
 mod traits;
 #[cfg(test)]

@@ -1,10 +1,14 @@
-//! Octets as text, as record data print them: base64 and hexadecimal (RFC 4648).
+//! Text and octets: octets that print as base64 and hexadecimal (RFC 4648), and the lines of a text with the words,
+//! numbers and octets in them.
 #![tactic(auto)]
 
 mod base64_text;
 mod hex_text;
-#[cfg(test)]
-mod tests;
+mod words;
 
 pub use base64_text::Base64Text;
 pub use hex_text::{LowerHex, UpperHex};
+pub use words::{
+    decode_hex, four_words, is_skipped, is_text, number_below, split_line, split_word, two_words,
+    without_return,
+};

@@ -1,4 +1,3 @@
-pub mod Numerals
 pub mod CodeTexts
 pub mod TypeBlocks
 pub mod NextBits

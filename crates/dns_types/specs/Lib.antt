@@ -1,3 +1,5 @@
+pub mod ClassNumbers
 pub mod Codes
+pub mod TypeNumbers
 pub mod TypeSets
 pub mod TypeWalks

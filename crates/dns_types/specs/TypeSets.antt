@@ -1,5 +1,7 @@
 -- Sets of record types as they stand in octets: type bitmaps (RFC 4034 4.1.2, RFC 5155 3.2.1).
-use Rattle.std.specs.Prelude.{◌≡◌, ℕ, zero, suc, ◌+◌, ◌-◌, ◌*◌, ◌/◌, ◌%◌, ◌^◌, ◌≤◌, ◌<◌, Bool, true, ◌&&◌, ◌==◌, IsTrue, List, [], ◌∷◌, length, take, drop, map, filter, slice_range, slice_index, All, Option, Some, None, Result, Ok, Err, nat_lt, nat_le, nat_eq, if◌then◌else◌}
+use Rattle.std.specs.Prelude.{◌≡◌, ℕ, zero, suc, ◌+◌, ◌-◌, ◌*◌, ◌/◌, ◌%◌, ◌^◌, ◌≤◌, ◌<◌, Bool, true, ◌&&◌, ◌==◌, IsTrue}
+use Rattle.std.specs.Prelude.{List, [], ◌∷◌, length, take, drop, map, filter, slice_range, slice_index, All, Option}
+use Rattle.std.specs.Prelude.{Some, None, Result, Ok, Err, nat_lt, nat_le, nat_eq, if◌then◌else◌}
 use Rattle.std.specs.Int.{bit_at}
 use Rattle.std.specs.List.{flat_map, list_any, range_with_len, sum}
 use Rattle.dns_wire.specs.declared.error.DecodeError.{DecodeError}
@@ -21,7 +23,8 @@ pub record IsBlock (block : Block) : Type 0 where
 abbrev pub block_octets : Block → List ℕ
 block_octets block = block.window ∷ length block.bits ∷ block.bits
 
--- The octets are these blocks, one behind the other. Windows may stand in any order and again, and no block at all is allowed.
+-- The octets are these blocks, one behind the other. Windows may stand in any order and again, and no block at all is
+-- allowed.
 pub record AreBlocks (octets : List ℕ) (blocks : List Block) : Type 0 where
   pub each : All IsBlock blocks
   pub whole : octets ≡ flat_map block_octets blocks
@@ -33,12 +36,12 @@ IsBitmap octets = (blocks : List Block) × AreBlocks octets blocks
 -- ---- its set of types
 
 -- whether bit n is set, from the highest bit of the first octet on; bits behind the octets are not
-abbrev pub has_bit : List ℕ → ℕ → Bool
-has_bit bits n = nat_lt (n / 8) (length bits) && (bit_at (slice_index bits (n / 8)) (7 - n % 8) == 1)
+abbrev pub has_type_bit : List ℕ → ℕ → Bool
+has_type_bit bits n = nat_lt (n / 8) (length bits) && (bit_at (slice_index bits (n / 8)) (7 - n % 8) == 1)
 
 -- whether the bit of a type is set in a block: type 256 w + n has bit n of window w
 abbrev pub block_has : ℕ → Block → Bool
-block_has t block = nat_eq block.window (t / 256) && has_bit block.bits (t % 256)
+block_has t block = nat_eq block.window (t / 256) && has_type_bit block.bits (t % 256)
 
 -- the type is in the set of a bitmap: its bit is set in one of the blocks
 pub record HasType (octets : List ℕ) (t : ℕ) : Type 0 where
@@ -56,7 +59,8 @@ is_block len rest = nat_le 1 len && nat_le len 32 && nat_le len (length rest)
 abbrev pub first_block : List ℕ → Option (Block × List ℕ)
 first_block [] = None
 first_block (window ∷ []) = None
-first_block (window ∷ len ∷ rest) = if is_block len rest then Some (record { window = window; bits = take len rest }, drop len rest) else None
+first_block (window ∷ len ∷ rest) = if is_block len rest
+    then Some (record { window = window; bits = take len rest }, drop len rest) else None
 
 -- a block before those behind it, or none
 abbrev pub before_blocks : Option (Block × List ℕ) → (List ℕ → List Block) → List Block
@@ -93,8 +97,8 @@ ascend_from lowest (block ∷ blocks) = nat_le lowest block.window && ascend_fro
 unfoldable pub is_ascending : List ℕ → Bool
 is_ascending octets = ascend_from 0 (blocks_of octets)
 
--- What reading a set gives from p up to e, where its octets end: these octets, and that place. Octets that are no bitmap are
--- `BitmapMalformed`.
+-- What reading a set gives from p up to e, where its octets end: these octets, and that place. Octets that are no
+-- bitmap are `BitmapMalformed`.
 abbrev pub types_at : List ℕ → ℕ → ℕ → Result (List ℕ × ℕ) DecodeError
 types_at m p e = if is_bitmap (slice_range m p e) then Ok (slice_range m p e, e) else Err BitmapMalformed
 

@@ -2,7 +2,8 @@
 use Rattle.std.specs.Prelude.{◌≡◌, ℕ, ◌-◌, ◌^◌, ◌≤◌, ◌<◌, Bool, true, false, IsTrue, List, filter, Option}
 use Rattle.std.specs.List.{range_with_len}
 use Rattle.std.specs.Option.{MatchOption}
-use Rattle.dns_types.specs.TypeSets.{Block, has_bit, block_has, is_bitmap, has_type, is_ascending, ascend_from, blocks_of, form_of}
+use Rattle.dns_types.specs.TypeSets.{Block, has_type_bit, block_has, is_bitmap, has_type, is_ascending, ascend_from}
+use Rattle.dns_types.specs.TypeSets.{blocks_of, form_of}
 
 -- the octets of a set are a bitmap, and beside them stands the form of the set where their windows do not ascend
 pub record HoldsTypes (octets : List ℕ) (ascending : Option (List ℕ)) : Type 0 where
@@ -27,8 +28,10 @@ pub record IsFirstFrom (test : ℕ → Bool) (from n : ℕ) : Type 0 where
 
 -- the first bit from `from` on that is set
 abbrev pub NextBit : List ℕ → ℕ → Option ℕ → Type 0
-NextBit bits from found = MatchOption found ((k : ℕ) → from ≤ k → has_bit bits k ≡ false) (IsFirstFrom (has_bit bits) from)
+NextBit bits from found = MatchOption found ((k : ℕ) → from ≤ k → has_type_bit bits k ≡ false)
+    (IsFirstFrom (has_type_bit bits) from)
 
 -- the first type of a block from `from` on
 abbrev pub NextType : Block → ℕ → Option ℕ → Type 0
-NextType block from found = MatchOption found ((t : ℕ) → from ≤ t → block_has t block ≡ false) (IsFirstFrom (λ t. block_has t block) from)
+NextType block from found = MatchOption found ((t : ℕ) → from ≤ t → block_has t block ≡ false)
+    (IsFirstFrom (λ t. block_has t block) from)

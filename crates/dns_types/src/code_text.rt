@@ -1,12 +1,13 @@
 //! Types and classes read from text.
 ghost use Rattle.std.specs.Prelude.{◌≡◌, map};
-ghost use Rattle.dns_types.specs.Codes.{type_of, class_of, number_named, number_of, number_behind, same_text};
+ghost use Rattle.dns_types.specs.Codes.{type_of, class_of, number_named, number_behind, same_text};
 
 use crate::codes::{CLASSES, DNSClass, RecordType, TYPES};
+use dns_text::number_below;
 
 impl RecordType {
-    /// The type that a text names: by its mnemonic, or by `TYPE` and its number in decimal digits (RFC 3597 5), in any case of letters.
-    /// Leading zeros are allowed. `None` where the text names none, as with a number above 65,535.
+    /// The type that a text names: by its mnemonic, or by `TYPE` and its number in decimal digits (RFC 3597 5), in any
+    /// case of letters. Leading zeros are allowed. `None` where the text names none, as with a number above 65,535.
     pub fn parse(text: &str) -> Option<RecordType>
         ensures { result ≡ type_of text.now }
     {
@@ -16,8 +17,8 @@ impl RecordType {
 }
 
 impl DNSClass {
-    /// The class that a text names: by its mnemonic, or by `CLASS` and its number in decimal digits (RFC 3597 5), in any case of letters.
-    /// Leading zeros are allowed. `None` where the text names none, as with a number above 65,535.
+    /// The class that a text names: by its mnemonic, or by `CLASS` and its number in decimal digits (RFC 3597 5), in
+    /// any case of letters. Leading zeros are allowed. `None` where the text names none, as with a number above 65,535.
     pub fn parse(text: &str) -> Option<DNSClass>
         ensures { result ≡ class_of text.now }
     {
@@ -50,28 +51,11 @@ fn number_behind(word: &str, text: &str) -> Option<u16>
     ensures { result ≡ number_behind word.now text.now }
 {
     let (front, digits) = text.as_bytes().split_at_checked(word.len())?;
-    if front.eq_ignore_ascii_case(word.as_bytes()) {
-        number_of(digits)
-    } else {
-        None
-    }
-}
-
-/// The number up to 65,535 that decimal digits write.
-fn number_of(digits: &[u8]) -> Option<u16>
-    ensures { result ≡ number_of digits.now }
-{
-    if digits.is_empty() {
+    if !front.eq_ignore_ascii_case(word.as_bytes()) {
         return None;
     }
-    let mut number = 0u32;
-    'digits: for digit in digits {
-        if !digit.is_ascii_digit() {
-            return None;
-        }
-        number = number
-            .saturating_mul(10)
-            .saturating_add(u32::from(*digit - b'0'));
+    match number_below(1 << 16, digits) {
+        Some(number) => Some(number as u16),
+        None => None,
     }
-    u16::try_from(number).ok()
 }

@@ -1,7 +1,8 @@
 //! Numbers of record types and of classes.
 ghost use Rattle.std.specs.Prelude.{◌≡◌, Some, map};
 ghost use Rattle.std.specs.Option.{option_map};
-ghost use Rattle.dns_types.specs.Codes.{mnemonic_of, type_text, class_text};
+ghost use Rattle.dns_wire.specs.Lookup.{lookup};
+ghost use Rattle.dns_types.specs.Codes.{type_text, class_text};
 
 use std::fmt;
 use std::marker::Model;
@@ -48,7 +49,8 @@ pub(crate) const CLASSES: [(u16, &str); 5] = [
 
 /// The mnemonic beside a number.
 fn mnemonic(codes: &[(u16, &'static str)], number: u16) -> Option<&'static str>
-    ensures { option_map (λ text. text.now) result ≡ mnemonic_of (map (λ entry. (entry.0, entry.1.now)) codes.now) number }
+    ensures { option_map (λ text. text.now) result
+        ≡ lookup (map (λ entry. (entry.0, entry.1.now)) codes.now) number }
 {
     'codes: for (code, mnemonic) in codes {
         if *code == number {

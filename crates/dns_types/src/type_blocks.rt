@@ -5,8 +5,8 @@ ghost use Rattle.dns_types.specs.TypeWalks.{NextBit, NextType};
 
 use std::marker::Model;
 
-/// A window of 256 types, octets with a bit for each of its first types, and the octets behind this block. A contract sees the block, and
-/// the octets behind it.
+/// A window of 256 types, octets with a bit for each of its first types, and the octets behind this block. A contract
+/// sees the block, and the octets behind it.
 #[derive(Drop)]
 pub(crate) struct TypeBlock<'a> {
     window: u8,
@@ -105,7 +105,7 @@ fn bit_from(bits: &[u8], from: usize) -> Option<usize>
 }
 
 /// Whether the octets are a bitmap.
-#[tactic(auto, using(crate::proofs::TypeBlocks::bitmap_more, crate::proofs::TypeBlocks::bitmap_none, crate::proofs::TypeBlocks::behind))]
+#[tactic(auto, using(crate::proofs::TypeBlocks::bitmap_steps))]
 pub(crate) fn is_bitmap(octets: &[u8]) -> bool
     ensures { result ≡ is_bitmap octets.now }
 {
@@ -117,7 +117,7 @@ pub(crate) fn is_bitmap(octets: &[u8]) -> bool
 }
 
 /// Whether the windows strictly ascend.
-#[tactic(auto, using(crate::proofs::TypeBlocks::ascends_more, crate::proofs::TypeBlocks::ascends_none, crate::proofs::TypeBlocks::behind))]
+#[tactic(auto, using(crate::proofs::TypeBlocks::ascending_steps))]
 pub(crate) fn is_ascending(octets: &[u8]) -> bool
     ensures { result ≡ is_ascending octets.now }
 {
@@ -134,7 +134,7 @@ pub(crate) fn is_ascending(octets: &[u8]) -> bool
 }
 
 /// Whether a bitmap has the type.
-#[tactic(auto, using(crate::proofs::TypeBlocks::has_more, crate::proofs::TypeBlocks::has_none, crate::proofs::TypeBlocks::behind))]
+#[tactic(auto, using(crate::proofs::TypeBlocks::member_steps))]
 pub(crate) fn has_type(octets: &[u8], rtype: u16) -> bool
     ensures { result ≡ has_type octets.now rtype }
 {

@@ -1,6 +1,8 @@
 //! The one form in which a set of types is written (RFC 4034 4.1.2).
-ghost use Rattle.std.specs.Prelude.{◌≡◌, ℕ, ◌+◌, ◌≤◌, ◌<◌, ◌++◌, ◌||◌, [], IfOk, OnOk, bit_or, length, nat_eq, slice_index};
-ghost use Rattle.dns_types.specs.TypeSets.{has_bit, block_has, has_type, is_one_of, trimmed, block_unless_empty, form_of};
+ghost use Rattle.std.specs.Prelude.{◌≡◌, ℕ, ◌+◌, ◌≤◌, ◌<◌, ◌++◌, ◌||◌, [], IfOk, OnOk, bit_or, length, nat_eq};
+ghost use Rattle.std.specs.Prelude.{slice_index};
+ghost use Rattle.dns_types.specs.TypeSets.{has_type_bit, block_has, has_type, is_one_of, trimmed, block_unless_empty};
+ghost use Rattle.dns_types.specs.TypeSets.{form_of};
 
 use crate::codes::RecordType;
 use crate::type_blocks::TypeBlock;
@@ -12,7 +14,7 @@ use std::marker::Model;
 ///
 /// # Errors
 ///
-/// Want of memory.
+/// Out of memory.
 pub(crate) fn octets_of_types(alloc: Global, types: &[RecordType]) -> Result<Vec<u8>, OutOfMemory>
     ensures { IfOk result (λ octets. octets.items ≡ form_of (is_one_of types.now)) }
 {
@@ -27,7 +29,7 @@ pub(crate) fn octets_of_types(alloc: Global, types: &[RecordType]) -> Result<Vec
 ///
 /// # Errors
 ///
-/// Want of memory.
+/// Out of memory.
 pub(crate) fn ascending_octets(alloc: Global, octets: &[u8]) -> Result<Vec<u8>, OutOfMemory>
     ensures { IfOk result (λ form. form.items ≡ form_of (has_type octets.now)) }
 {
@@ -40,7 +42,8 @@ pub(crate) fn ascending_octets(alloc: Global, octets: &[u8]) -> Result<Vec<u8>, 
     bits.form(alloc)
 }
 
-/// A bit for each type of a set: type n is bit n, from the highest bit of the first octet on. A contract sees the octets.
+/// A bit for each type of a set: type n is bit n, from the highest bit of the first octet on. A contract sees the
+/// octets.
 #[derive(Drop)]
 struct TypeBits {
     octets: Vec<u8>,
@@ -70,7 +73,7 @@ impl TypeBits {
     fn make_room(&mut self, len: usize) -> Result<(), OutOfMemory>
         requires { len ≤ 8192 }
         ensures room { OnOk result (len ≤ length self.new) }
-        ensures bits { OnOk result ((n : ℕ) → has_bit self.new n ≡ has_bit self.old n) }
+        ensures bits { OnOk result ((n : ℕ) → has_type_bit self.new n ≡ has_type_bit self.old n) }
     {
         if self.octets.len() < len {
             self.octets.resize(len, 0)?;
@@ -81,7 +84,7 @@ impl TypeBits {
     /// Adds a type.
     #[tactic(auto, using(crate::proofs::TypeBits::bit_set_after))]
     fn insert(&mut self, rtype: RecordType) -> Result<(), OutOfMemory>
-        ensures { OnOk result ((n : ℕ) → has_bit self.new n ≡ (has_bit self.old n || nat_eq n rtype)) }
+        ensures { OnOk result ((n : ℕ) → has_type_bit self.new n ≡ (has_type_bit self.old n || nat_eq n rtype)) }
     {
         let number = u16::from(rtype);
         let place = usize::from(number / 8);
@@ -93,7 +96,8 @@ impl TypeBits {
     /// Adds the types of a block.
     #[tactic(auto, using(crate::proofs::TypeBits::bits_merged_after))]
     fn merge(&mut self, block: &TypeBlock<'_>) -> Result<(), OutOfMemory>
-        ensures { OnOk result ((n : ℕ) → has_bit self.new n ≡ (has_bit self.old n || block_has n block.now.0)) }
+        ensures { OnOk result ((n : ℕ) → has_type_bit self.new n
+            ≡ (has_type_bit self.old n || block_has n block.now.0)) }
     {
         let start = 32 * usize::from(block.window());
         let bits = block.bits();
@@ -105,7 +109,7 @@ impl TypeBits {
     /// The form of the set.
     #[tactic(auto, using(crate::proofs::FormWriting::written_all, crate::proofs::FormWriting::written_more))]
     fn form(&self, alloc: Global) -> Result<Vec<u8>, OutOfMemory>
-        ensures { IfOk result (λ form. form.items ≡ form_of (has_bit self.now)) }
+        ensures { IfOk result (λ form. form.items ≡ form_of (has_type_bit self.now)) }
     {
         let bits = self.octets.as_slice();
         let mut form = Vec::new(alloc);
@@ -122,7 +126,8 @@ impl TypeBits {
 fn merge_at(octets: &mut [u8], start: usize, bits: &[u8])
     requires { start + length bits.now ≤ length octets.old }
     ensures before { (k : ℕ) → k < start → slice_index octets.new k ≡ slice_index octets.old k }
-    ensures merged { (k : ℕ) → slice_index octets.new (start + k) ≡ bit_or (slice_index octets.old (start + k)) (slice_index bits.now k) }
+    ensures merged { (k : ℕ) → slice_index octets.new (start + k)
+        ≡ bit_or (slice_index octets.old (start + k)) (slice_index bits.now k) }
 {
     for (i, more) in bits.iter().enumerate() {
         octets[start + i] |= *more;
@@ -130,7 +135,7 @@ fn merge_at(octets: &mut [u8], start: usize, bits: &[u8])
 }
 
 /// The octets without the zero octets at their end.
-#[tactic(auto, using(crate::proofs::FormWriting::trim_none, crate::proofs::FormWriting::trim_more, crate::proofs::FormWriting::trim_all))]
+#[tactic(auto, using(crate::proofs::FormWriting::trim_steps))]
 fn trimmed(octets: &[u8]) -> &[u8]
     ensures { result.now ≡ trimmed octets.now }
 {

@@ -20,9 +20,11 @@ use std::alloc::Global;
 use std::hash::{Hash, Hasher};
 use std::marker::Model;
 
-/// A set of record types, in the octets that it writes (RFC 4034 4.1.2). A set that was read writes what was received, octet by octet.
+/// A set of record types, in the octets that it writes (RFC 4034 4.1.2). A set that was read writes what was received,
+/// octet by octet.
 ///
-/// A contract sees these octets, which are a bitmap. Equality and hash go by them, so that two sets with the same types can differ.
+/// A contract sees these octets, which are a bitmap. Equality and hash go by them, so that two sets with the same types
+/// can differ.
 #[derive(Debug, Drop)]
 pub struct RecordTypeSet {
     octets: Octets,
@@ -42,12 +44,12 @@ impl Model for RecordTypeSet {
 }
 
 impl RecordTypeSet {
-    /// The set of these types, in any order and with repeats. It writes the windows that have a type, ascending, each up to its last
-    /// octet that has one.
+    /// The set of these types, in any order and with repeats. It writes the windows that have a type, ascending, each
+    /// up to its last octet that has one.
     ///
     /// # Errors
     ///
-    /// Want of memory.
+    /// Out of memory.
     pub fn new(alloc: Global, types: &[RecordType]) -> Result<RecordTypeSet, OutOfMemory>
         ensures value { IfOk result (λ set. set ≡ form_of (is_one_of types.now)) }
         ensures members { IfOk result (λ set. (t : ℕ) → t < 2 ^ 16 → HasType set t ↔ Contains types.now t) }
@@ -64,7 +66,7 @@ impl RecordTypeSet {
     ///
     /// # Errors
     ///
-    /// `BitmapMalformed` for octets that are no bitmap, and want of memory. The decoder then stays in place.
+    /// `BitmapMalformed` for octets that are no bitmap, or out of memory. The decoder then stays in place.
     pub fn read_within(
         alloc: Global,
         decoder: &mut BinDecoder<'_>,
@@ -72,7 +74,8 @@ impl RecordTypeSet {
     ) -> Result<RecordTypeSet, DecodeError>
         requires ahead { place decoder.old ≤ end }
         requires inside { end ≤ length (octets decoder.old) }
-        ensures exact { ReadsUnless (λ set. set) result decoder.old decoder.new (types_at (octets decoder.old) (place decoder.old) end) }
+        ensures exact { ReadsUnless (λ set. set) result decoder.old decoder.new
+            (types_at (octets decoder.old) (place decoder.old) end) }
         ensures bitmap { IfOk result (λ set. IsTrue (is_bitmap set)) }
         ensures inside { place decoder.new ≤ end }
     {
@@ -138,7 +141,7 @@ impl RecordTypeSet {
     ///
     /// # Errors
     ///
-    /// Want of memory.
+    /// Out of memory.
     pub fn try_clone(&self) -> Result<RecordTypeSet, OutOfMemory>
         ensures value { IfOk result (λ set. set ≡ self.now) }
         ensures bitmap { IsTrue (is_bitmap self.now) }
@@ -158,14 +161,15 @@ impl<'r> RecordDataDecodable<'r> for RecordTypeSet {
     ghost use Rattle.dns_wire.specs.Reading.{ReadsUnless};
     ghost use Rattle.dns_types.specs.TypeSets.{type_set_at};
 
-    ghost is_read = { λ len old new result. ReadsUnless (λ set. set) result old new (type_set_at (octets old) (place old) len) };
+    ghost is_read = { λ len old new result. ReadsUnless (λ set. set) result old new
+        (type_set_at (octets old) (place old) len) };
 
     /// Reads the set whose octets are the data.
     ///
     /// # Errors
     ///
-    /// `InsufficientBytes` where fewer octets are left, then `BitmapMalformed` for octets that are no bitmap, and want of memory. The
-    /// decoder then stays in place.
+    /// `InsufficientBytes` where fewer octets are left, then `BitmapMalformed` for octets that are no bitmap, or out
+    /// of memory. The decoder then stays in place.
     fn read_data(
         alloc: Global,
         decoder: &mut BinDecoder<'r>,

@@ -1,3 +1,4 @@
+pub mod Lookup
 pub mod Octets
 pub mod Reading
 pub mod Writing

@@ -1,7 +1,7 @@
 -- The statements of octets, line by line.
 use Rattle.std.proofs.Common.{◌≡◌, ℕ, true, false, not, List, ◌∷◌, map, refl, sym, ap, ◌∙◌}
 use Rattle.std.specs.Prelude.{filter}
-use Rattle.dns_io.specs.Words.{is_skipped, lines, without_return}
+use Rattle.dns_text.specs.Words.{is_skipped, lines, without_return}
 use Rattle.dnscheck.specs.Script.{statements}
 
 of_lines : List (List ℕ) → List (List ℕ)

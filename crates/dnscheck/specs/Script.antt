@@ -4,7 +4,7 @@ use Rattle.std.specs.List.{list_all}
 use Rattle.std.specs.Result.{result_ok}
 use Rattle.std.specs.Str.{bytes_eq}
 use Rattle.dns_names.specs.NameText.{name_of}
-use Rattle.dns_io.specs.Words.{◌>>=◌, is_text, is_skipped, lines, without_return, words, two_words, four_words, number_below, octets_of}
+use Rattle.dns_text.specs.Words.{is_text, is_skipped, lines, without_return, words, two_words, four_words, number_below, decode_hex}
 use Rattle.sec_digest.specs.declared.hmac.HmacHash.{HmacHash}
 use Rattle.sec_digest.specs.declared.hmac.HmacHash.TheVariants.{Sha256}
 use Rattle.sec_tsig.specs.Verdict.{Signer, Chain}
@@ -52,7 +52,7 @@ key_line line = do
   algorithm ← hash_named w.0
   name ← spelled_name w.1
   fudge ← number_below (2 ^ 16) w.2
-  key ← octets_of w.3
+  key ← decode_hex w.3
   Some (record { key = key; algorithm = algorithm; name = name; fudge = fudge })
 
 -- `request TIME HEX`: the signed request, and the chain that it begins
@@ -61,7 +61,7 @@ request_line signer line = do
   others ← words_behind (codes "request") line
   w ← two_words others
   time ← number_below (2 ^ 48) w.0
-  octets ← octets_of w.1
+  octets ← decode_hex w.1
   signed_request signer time octets
 
 -- `answer MOMENT HEX`
@@ -70,7 +70,7 @@ answer_line line = do
   others ← words_behind (codes "answer") line
   w ← two_words others
   moment ← number_below (2 ^ 32) w.0
-  octets ← octets_of w.1
+  octets ← decode_hex w.1
   Some (record { moment = moment; octets = octets })
 
 -- one key line, one request line and one answer line, in this order

@@ -1,12 +1,12 @@
 //! A script: who signs, a request and an answer, each in a line of its own.
 
 ghost use Rattle.std.specs.Prelude.{◌≡◌, ◌∷◌, [], MatchOption};
-ghost use Rattle.dns_io.specs.Words.{words};
+ghost use Rattle.dns_text.specs.Words.{words};
 ghost use Rattle.dnscheck.specs.Script.{statements, words_behind, spelled_name, key_line, request_line, answer_line, script_of, GivesScript};
 
 use crate::error::ScriptError;
-use dns_io::{
-    four_words, is_skipped, is_text, number_below, octets_of, split_line, split_word, two_words,
+use dns_text::{
+    four_words, is_skipped, is_text, number_below, decode_hex, split_line, split_word, two_words,
     without_return,
 };
 use dns_names::Name;
@@ -97,7 +97,7 @@ fn key_line(alloc: Global, line: &[u8]) -> Result<FirstSigner, ScriptError>
     }
     let name = spelled_name(name).ok_or(ScriptError::Fault)?;
     let fudge = number_below(1 << 16, fudge).ok_or(ScriptError::Fault)?;
-    let key = octets_of(alloc, key)?.ok_or(ScriptError::Fault)?;
+    let key = decode_hex(alloc, key)?.ok_or(ScriptError::Fault)?;
     let key = Vec::from_slice(alloc, key.as_slice())?;
     Ok(FirstSigner::new(key, name, fudge as u16))
 }
@@ -113,7 +113,7 @@ fn request_line(
     let rest = behind_keyword(b"request", line)?;
     let (time, octets) = two_words(rest).ok_or(ScriptError::Fault)?;
     let time = number_below(1 << 48, time).ok_or(ScriptError::Fault)?;
-    let octets = octets_of(alloc, octets)?.ok_or(ScriptError::Fault)?;
+    let octets = decode_hex(alloc, octets)?.ok_or(ScriptError::Fault)?;
     Ok(signer.sign_request(alloc, octets.as_slice(), time)?)
 }
 
@@ -124,7 +124,7 @@ fn answer_line(alloc: Global, line: &[u8]) -> Result<Answer, ScriptError>
     let rest = behind_keyword(b"answer", line)?;
     let (moment, octets) = two_words(rest).ok_or(ScriptError::Fault)?;
     let moment = number_below(1 << 32, moment).ok_or(ScriptError::Fault)?;
-    let octets = octets_of(alloc, octets)?.ok_or(ScriptError::Fault)?;
+    let octets = decode_hex(alloc, octets)?.ok_or(ScriptError::Fault)?;
     Ok(Answer {
         moment: moment as u32,
         octets,

@@ -1,10 +1,13 @@
--- Sets of the algorithms that are taken. A set is seen as the sum of 2^i over its members, i being their place in the list of the seven.
-use Rattle.std.specs.Prelude.{Bool, false, ◌==◌, ◌≡◌, ◌↔◌, ◌⊎◌, IsTrue, Contains, ℕ, List, [], ◌∷◌, ◌++◌, codes, Option, Some, None, filter}
+-- Sets of the algorithms that are taken. A set is seen as the sum of 2^i over its members, i being their place in the
+-- list of the seven.
+use Rattle.std.specs.Prelude.{Bool, false, ◌==◌, ◌≡◌, ◌↔◌, ◌⊎◌, IsTrue, Contains, ℕ, List, [], ◌∷◌, ◌++◌, codes, Option}
+use Rattle.std.specs.Prelude.{Some, None, filter}
 use Rattle.std.specs.Int.{bit_at}
 use Rattle.std.specs.List.{flat_map}
 use Rattle.std.specs.Option.{option_map_or}
 use Rattle.sec_codes.specs.declared.algorithm.Algorithm.{Algorithm}
-use Rattle.sec_codes.specs.declared.algorithm.Algorithm.TheVariants.{RSASHA1, RSASHA1NSEC3SHA1, RSASHA256, RSASHA512, ECDSAP256SHA256, ECDSAP384SHA384, ED25519}
+use Rattle.sec_codes.specs.declared.algorithm.Algorithm.TheVariants.{RSASHA1, RSASHA1NSEC3SHA1, RSASHA256, RSASHA512}
+use Rattle.sec_codes.specs.declared.algorithm.Algorithm.TheVariants.{ECDSAP256SHA256, ECDSAP384SHA384, ED25519}
 use Rattle.sec_codes.specs.Algorithms.{text, supported}
 
 -- the algorithms that a set may have, in the order in which members are listed
@@ -40,4 +43,5 @@ IsSetOf s algorithms = (a : Algorithm) → IsTrue (has s a) ↔ (Contains algori
 
 -- the new set has the members of the old one and, where it is supported, one more algorithm
 abbrev pub Adds : ℕ → ℕ → Algorithm → Type 0
-Adds old new added = (a : Algorithm) → IsTrue (has new a) ↔ (IsTrue (has old a) ⊎ ((a ≡ added) × IsTrue (supported added)))
+Adds old new added = (a : Algorithm) → IsTrue (has new a)
+    ↔ (IsTrue (has old a) ⊎ ((a ≡ added) × IsTrue (supported added)))

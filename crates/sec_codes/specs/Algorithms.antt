@@ -1,10 +1,15 @@
--- The algorithms of keys and signatures: their numbers (IANA, DNS Security Algorithm Numbers; RFC 8624 3.1), names and digests.
-use Rattle.std.specs.Prelude.{Bool, true, false, ◌==◌, ℕ, List, [], ◌∷◌, length, codes, if◌then◌else◌, Option, Some, None, Result, Ok}
+-- The algorithms of keys and signatures: their numbers (IANA, DNS Security Algorithm Numbers; RFC 8624 3.1), names and
+-- digests.
+use Rattle.std.specs.Prelude.{Bool, true, false, ℕ, List, [], ◌∷◌, length, map, codes, Option, Some, None, unwrap_or}
+use Rattle.std.specs.Prelude.{Result, Ok}
 use Rattle.std.specs.Int.{w8}
 use Rattle.dns_wire.specs.declared.error.DecodeError.{DecodeError}
+use Rattle.dns_wire.specs.Lookup.{lookup}
 use Rattle.dns_wire.specs.Reading.{number_at, ◌>>=◌}
 use Rattle.sec_codes.specs.declared.algorithm.Algorithm.{Algorithm}
-use Rattle.sec_codes.specs.declared.algorithm.Algorithm.TheVariants.{RSAMD5, DSA, RSASHA1, RSASHA1NSEC3SHA1, RSASHA256, RSASHA512, ECDSAP256SHA256, ECDSAP384SHA384, ED25519, Unknown}
+use Rattle.sec_codes.specs.declared.algorithm.Algorithm.TheVariants.{RSAMD5, DSA, RSASHA1, RSASHA1NSEC3SHA1, RSASHA256}
+use Rattle.sec_codes.specs.declared.algorithm.Algorithm.TheVariants.{RSASHA512, ECDSAP256SHA256, ECDSAP384SHA384}
+use Rattle.sec_codes.specs.declared.algorithm.Algorithm.TheVariants.{ED25519, Unknown}
 
 -- a row of the table: the number, the name, how many octets the digest has, and whether keys of the algorithm are taken
 pub record Row : Type 0 where
@@ -39,17 +44,14 @@ abbrev pub supported : Algorithm → Bool
 supported a = (row a).supported
 
 -- the algorithms that have a name of their own
-abbrev pub named : List Algorithm
-named = RSAMD5 ∷ DSA ∷ RSASHA1 ∷ RSASHA1NSEC3SHA1 ∷ RSASHA256 ∷ RSASHA512 ∷ ECDSAP256SHA256 ∷ ECDSAP384SHA384 ∷ ED25519 ∷ []
+abbrev pub known_algorithms : List Algorithm
+known_algorithms =
+    RSAMD5 ∷ DSA ∷ RSASHA1 ∷ RSASHA1NSEC3SHA1 ∷ RSASHA256 ∷ RSASHA512 ∷ ECDSAP256SHA256 ∷ ECDSAP384SHA384 ∷
+    ED25519 ∷ []
 
--- the first of a list that has a number, and where none has it the unknown algorithm of that number
-abbrev pub numbered : List Algorithm → ℕ → Algorithm
-numbered [] n = Unknown n
-numbered (a ∷ rest) n = if number a == n then a else numbered rest n
-
--- the algorithm of a number
+-- the algorithm of a number, which is unknown where none of these has it
 abbrev pub algorithm_numbered : ℕ → Algorithm
-algorithm_numbered = numbered named
+algorithm_numbered n = unwrap_or (lookup (map (λ a. (number a, a)) known_algorithms) n) (Unknown n)
 
 -- the algorithm whose number is the octet at a place
 abbrev pub algorithm_at : List ℕ → ℕ → Result (Algorithm × ℕ) DecodeError

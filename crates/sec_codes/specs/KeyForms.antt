@@ -1,8 +1,10 @@
 -- The forms of public keys: RSA (RFC 3110 2), ECDSA (RFC 6605 4), Ed25519 (RFC 8080 3).
-use Rattle.std.specs.Prelude.{◌≡◌, ◌⊎◌, ◌==◌, nat_le, if◌then◌else◌, ℕ, ◌+◌, ◌*◌, ◌^◌, ◌<◌, List, [], ◌∷◌, ◌++◌, length, take, drop, Option, Some, None, Result, Ok, Err}
+use Rattle.std.specs.Prelude.{◌≡◌, ◌⊎◌, ◌==◌, nat_le, if◌then◌else◌, ℕ, ◌+◌, ◌*◌, ◌^◌, ◌<◌, List, [], ◌∷◌, ◌++◌, length}
+use Rattle.std.specs.Prelude.{take, drop, Option, Some, None, Result, Ok, Err}
 use Rattle.dns_wire.specs.Octets.{two_octets}
 use Rattle.sec_codes.specs.declared.algorithm.Algorithm.{Algorithm}
-use Rattle.sec_codes.specs.declared.algorithm.Algorithm.TheVariants.{RSASHA1, RSASHA1NSEC3SHA1, RSASHA256, RSASHA512, ECDSAP256SHA256, ECDSAP384SHA384, ED25519}
+use Rattle.sec_codes.specs.declared.algorithm.Algorithm.TheVariants.{RSASHA1, RSASHA1NSEC3SHA1, RSASHA256, RSASHA512}
+use Rattle.sec_codes.specs.declared.algorithm.Algorithm.TheVariants.{ECDSAP256SHA256, ECDSAP384SHA384, ED25519}
 use Rattle.sec_codes.specs.declared.key_error.KeyError.{KeyError}
 use Rattle.sec_codes.specs.declared.key_error.KeyError.TheVariants.{UnsupportedAlgorithm, WrongLength, BadRsaKey}
 use Rattle.sec_codes.specs.declared.key_error.KeyKind.{KeyKind}
@@ -14,8 +16,8 @@ pub record Key : Type 0 where
   pub octets : List ℕ
   pub algorithm : Algorithm
 
--- Octets are an RSA key of this exponent and modulus: the exponent's length in one octet, or a zero octet and the length in two, then the
--- exponent, then the modulus. One octet holds 1 to 255.
+-- Octets are an RSA key of this exponent and modulus: the exponent's length in one octet, or a zero octet and the
+-- length in two, then the exponent, then the modulus. One octet holds 1 to 255.
 abbrev pub IsRsa : List ℕ → List ℕ → List ℕ → Type 0
 IsRsa key e n =
     ((0 < length e) × (length e < 2 ^ 8) × (key ≡ length e ∷ (e ++ n)))

@@ -5,12 +5,12 @@ use Rattle.sec_codes.specs.declared.proof_flags.ProofFlags.{ProofFlags}
 use Rattle.sec_codes.specs.declared.proof.Proof.{Proof}
 use Rattle.sec_codes.specs.declared.proof.Proof.TheVariants.{Indeterminate, Bogus, Insecure, Secure}
 
--- the place of a proof in their order
-abbrev pub rank : Proof → ℕ
-rank Indeterminate = 0
-rank Bogus = 1
-rank Insecure = 2
-rank Secure = 3
+-- the number of a proof, which is its place in their order
+abbrev pub proof_number : Proof → ℕ
+proof_number Indeterminate = 0
+proof_number Bogus = 1
+proof_number Insecure = 2
+proof_number Secure = 3
 
 -- the name of a proof
 abbrev pub proof_text : Proof → List ℕ
@@ -21,7 +21,7 @@ proof_text Secure = codes "Secure"
 
 -- the flag of a proof
 abbrev pub flag : Proof → ℕ
-flag proof = 2 ^ rank proof
+flag proof = 2 ^ proof_number proof
 
 -- the number whose bits are the flags
 abbrev pub bits : ProofFlags → ℕ

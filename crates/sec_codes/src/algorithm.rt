@@ -158,7 +158,7 @@ impl BinEncodable for Algorithm {
 }
 
 impl<'r> BinDecodable<'r> for Algorithm {
-    ghost use Rattle.dns_wire.specs.Reading.{Reads};
+    ghost use Rattle.dns_wire.specs.Reading.{Reads, octets, place};
     ghost use Rattle.sec_codes.specs.Algorithms.{algorithm_at};
 
     ghost is_read = { λ old new result. Reads (λ a. a) result old new (algorithm_at (octets old) (place old)) };

@@ -27,8 +27,8 @@ pub enum DecodedKey<'k> {
 ///
 /// # Errors
 ///
-/// `UnsupportedAlgorithm` for an algorithm that is not supported. Else `WrongLength` or `BadRsaKey` where the octets lack the form of its
-/// keys.
+/// `UnsupportedAlgorithm` for an algorithm that is not supported. Else `WrongLength` or `BadRsaKey` where the octets
+/// lack the form of its keys.
 pub fn decode_public_key(
     public_key: &[u8],
     algorithm: Algorithm,

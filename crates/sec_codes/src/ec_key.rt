@@ -9,8 +9,8 @@ use crate::public_key::PublicKey;
 use crate::scheme::{SignatureScheme, ask};
 use std::marker::Model;
 
-/// A key of ECDSA: the two coordinates of a point, of 32 octets each for P-256 and of 48 for P-384. A contract sees the octets and the
-/// algorithm.
+/// A key of ECDSA: the two coordinates of a point, of 32 octets each for P-256 and of 48 for P-384. A contract sees the
+/// octets and the algorithm.
 #[derive(Debug, Drop)]
 pub struct EcKey<'k> {
     octets: &'k [u8],
@@ -34,7 +34,8 @@ impl<'k> EcKey<'k> {
     ///
     /// # Errors
     ///
-    /// `UnsupportedAlgorithm` outside ECDSAP256SHA256 and ECDSAP384SHA384, then `WrongLength` where they are not 64 and 96.
+    /// `UnsupportedAlgorithm` outside ECDSAP256SHA256 and ECDSAP384SHA384, then `WrongLength` where they are not 64 and
+    /// 96.
     pub fn from_public_bytes(
         public_key: &'k [u8],
         algorithm: Algorithm,

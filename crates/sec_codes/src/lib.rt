@@ -16,8 +16,6 @@ mod public_key_buf;
 mod rsa;
 mod scheme;
 mod supported_algorithms;
-#[cfg(test)]
-mod tests;
 
 pub use algorithm::Algorithm;
 pub use decoded_key::{DecodedKey, decode_public_key};

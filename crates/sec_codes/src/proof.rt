@@ -7,7 +7,8 @@ use std::error::Error;
 use std::fmt;
 use std::ops::BitOr;
 
-/// How far a record is proved authentic. The order is Indeterminate, Bogus, Insecure, Secure, and Indeterminate is the default.
+/// How far a record is proved authentic. The order is Indeterminate, Bogus, Insecure, Secure, and Indeterminate is the
+/// default.
 #[derive(Clone, Copy, Debug, Default, PartialEq, Eq, PartialOrd, Ord)]
 pub enum Proof {
     /// Whether the record should be signed can't be told.

@@ -29,7 +29,8 @@ impl Flags for ProofFlags {
 
     ghost exact = { ⊤ };
 
-    ghost table = { (codes "INDETERMINATE", 1) ∷ (codes "BOGUS", 2) ∷ (codes "INSECURE", 4) ∷ (codes "SECURE", 8) ∷ [] };
+    ghost table = { (codes "INDETERMINATE", 1) ∷ (codes "BOGUS", 2) ∷ (codes "INSECURE", 4) ∷ (codes "SECURE", 8)
+        ∷ [] };
 
     ghost set_of = { bits };
 

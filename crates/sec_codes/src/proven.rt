@@ -46,7 +46,8 @@ impl<T> Proven<T> {
     ///
     /// The proof, where it is not among them.
     pub fn require_as_ref(&self, flags: ProofFlags) -> Result<&T, Proof>
-        ensures { MatchResult result (λ value. IsTrue (among flags self.now.0) × (value.now ≡ self.now.1)) (λ proof. (among flags self.now.0 ≡ false) × (proof ≡ self.now.0)) }
+        ensures { MatchResult result (λ value. IsTrue (among flags self.now.0) × (value.now ≡ self.now.1))
+            (λ proof. (among flags self.now.0 ≡ false) × (proof ≡ self.now.0)) }
     {
         if flags.contains(ProofFlags::from(self.proof)) {
             Ok(&self.value)
@@ -61,7 +62,8 @@ impl<T> Proven<T> {
     ///
     /// The whole, where it is not among them.
     pub fn require(self, flags: ProofFlags) -> Result<T, Proven<T>>
-        ensures { MatchResult result (λ value. IsTrue (among flags self.0) × (value ≡ self.1)) (λ whole. (among flags self.0 ≡ false) × (whole ≡ self)) }
+        ensures { MatchResult result (λ value. IsTrue (among flags self.0) × (value ≡ self.1))
+            (λ whole. (among flags self.0 ≡ false) × (whole ≡ self)) }
     {
         if flags.contains(ProofFlags::from(self.proof)) {
             Ok(self.value)

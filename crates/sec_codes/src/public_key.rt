@@ -22,15 +22,17 @@ pub trait PublicKey {
     ///
     /// # Errors
     ///
-    /// Why the octets lack the form of the algorithm's keys. Where they have it, `Crypto` exactly where the scheme does not accept the
-    /// signature. `OutOfMemory` may come in place of any answer.
+    /// Why the octets lack the form of the algorithm's keys. Where they have it, `Crypto` exactly where the scheme does
+    /// not accept the signature. `OutOfMemory` may come in place of any answer.
     fn verify<S: SignatureScheme>(
         &self,
         scheme: &S,
         message: &[u8],
         signature: &[u8],
     ) -> Result<(), KeyError>
-        ensures { GivesUnless KeyError.OutOfMemory (λ done. done) result (verified (key self.now).algorithm (key self.now).octets (S.accepts scheme.now (key self.now).algorithm (key self.now).octets message.now signature.now)) };
+        ensures { GivesUnless KeyError.OutOfMemory (λ done. done) result
+            (verified (key self.now).algorithm (key self.now).octets
+            (S.accepts scheme.now (key self.now).algorithm (key self.now).octets message.now signature.now)) };
 
     /// The algorithm of the key.
     fn algorithm(&self) -> Algorithm

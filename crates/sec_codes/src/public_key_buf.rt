@@ -9,7 +9,8 @@ use crate::public_key::PublicKey;
 use crate::scheme::SignatureScheme;
 use dns_wire::OutOfMemory;
 
-/// The octets of a public key, which may lack the form of its algorithm's keys. A contract sees them and the algorithm, by `kept_key`.
+/// The octets of a public key, which may lack the form of its algorithm's keys. A contract sees them and the algorithm,
+/// by `kept_key`.
 #[derive(Debug, Drop, PartialEq, Eq, Hash)]
 pub struct PublicKeyBuf {
     key_buf: Vec<u8>,
@@ -35,7 +36,7 @@ impl PublicKeyBuf {
     ///
     /// # Errors
     ///
-    /// Want of memory.
+    /// Out of memory.
     pub fn try_clone(&self) -> Result<PublicKeyBuf, OutOfMemory>
         ensures { IfOk result (λ copy. kept_key copy ≡ kept_key self.now) }
     {

@@ -10,7 +10,8 @@ use crate::public_key::PublicKey;
 use crate::scheme::{SignatureScheme, ask};
 use std::marker::Model;
 
-/// A key of RSA: an exponent and a modulus. A contract sees the octets of both, with the exponent's length, and the algorithm.
+/// A key of RSA: an exponent and a modulus. A contract sees the octets of both, with the exponent's length, and the
+/// algorithm.
 #[derive(Debug, Drop)]
 pub struct Rsa<'k> {
     octets: &'k [u8],
@@ -28,7 +29,8 @@ impl<'k> Model for Rsa<'k> {
 
     ghost view = { λ s. record { octets = s.octets.now; algorithm = s.algorithm } };
 
-    ghost invariant = { λ s. (key_form s.algorithm s.octets.now ≡ Ok Rsa) × (rsa_parts s.octets.now ≡ Some (s.e.now, s.n.now)) };
+    ghost invariant = { λ s. (key_form s.algorithm s.octets.now ≡ Ok Rsa)
+        × (rsa_parts s.octets.now ≡ Some (s.e.now, s.n.now)) };
 }
 
 impl<'k> Rsa<'k> {
@@ -36,8 +38,9 @@ impl<'k> Rsa<'k> {
     ///
     /// # Errors
     ///
-    /// `UnsupportedAlgorithm` outside RSASHA1, RSASHA1NSEC3SHA1, RSASHA256 and RSASHA512, then `BadRsaKey` where they are no exponent and
-    /// modulus: where there are none, where a zero octet has not two octets of length behind it, or where the exponent passes the end.
+    /// `UnsupportedAlgorithm` outside RSASHA1, RSASHA1NSEC3SHA1, RSASHA256 and RSASHA512, then `BadRsaKey` where they
+    /// are no exponent and modulus: where there are none, where a zero octet has not two octets of length behind it, or
+    /// where the exponent passes the end.
     pub fn from_public_bytes(raw: &'k [u8], algorithm: Algorithm) -> Result<Rsa<'k>, KeyError>
         ensures form { Gives (λ _. KeyKind.Rsa) result (rsa_form algorithm raw.now) }
         ensures key { IfOk result (λ key. key ≡ record { octets = raw.now; algorithm = algorithm }) }

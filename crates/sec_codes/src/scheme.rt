@@ -8,19 +8,21 @@ use crate::algorithm::Algorithm;
 use crate::key_error::{KeyError, KeyKind};
 use dns_wire::OutOfMemory;
 
-/// A way to tell whether signatures are right. What it tells depends on what it holds, and on the four arguments of `verify` alone.
+/// A way to tell whether signatures are right. What it tells depends on what it holds, and on the four arguments of
+/// `verify` alone.
 pub trait SignatureScheme {
     ghost use Rattle.std.specs.Prelude.{Bool, ℕ, List};
     ghost use Rattle.sec_codes.specs.declared.algorithm.Algorithm.{Algorithm};
 
-    // the scheme's relation: whether it accepts a signature on a message by the key with these octets, under an algorithm
+    // the scheme's relation: whether it accepts a signature on a message by the key with these octets, under an
+    // algorithm
     ghost accepts: { Self → Algorithm → List ℕ → List ℕ → List ℕ → Bool };
 
     /// Whether the signature on the message by the key is right.
     ///
     /// # Errors
     ///
-    /// Want of memory.
+    /// Out of memory.
     fn verify(
         &self,
         algorithm: Algorithm,
@@ -45,7 +47,8 @@ pub(crate) fn ask<S: SignatureScheme>(
     signature: &[u8],
 ) -> Result<(), KeyError>
     requires { key_form algorithm key.now ≡ Ok kind }
-    ensures { GivesUnless KeyError.OutOfMemory (λ done. done) result (verified algorithm key.now (S.accepts scheme.now algorithm key.now message.now signature.now)) }
+    ensures { GivesUnless KeyError.OutOfMemory (λ done. done) result
+        (verified algorithm key.now (S.accepts scheme.now algorithm key.now message.now signature.now)) }
 {
     match scheme.verify(algorithm, key, message, signature) {
         Ok(true) => Ok(()),

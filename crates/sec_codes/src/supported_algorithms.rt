@@ -21,8 +21,8 @@ const SEVEN: [Algorithm; 7] = [
     Algorithm::ED25519,
 ];
 
-/// A set of supported algorithms. Sets are ordered by the sum of 2^i over their members, i being their place, from 0, in the order of
-/// iteration. A contract sees that sum.
+/// A set of supported algorithms. Sets are ordered by the sum of 2^i over their members, i being their place, from 0,
+/// in the order of iteration. A contract sees that sum.
 #[derive(Clone, Copy, Debug, PartialEq, Eq, PartialOrd, Ord, Hash)]
 pub struct SupportedAlgorithms {
     bit_map: u8,
@@ -101,7 +101,8 @@ impl SupportedAlgorithms {
         SupportedAlgorithms::place(algorithm).is_some_and(|place| self.bit_map >> place & 1 == 1)
     }
 
-    /// The members, each once: RSASHA1, RSASHA256, RSASHA1NSEC3SHA1, RSASHA512, ECDSAP256SHA256, ECDSAP384SHA384, ED25519.
+    /// The members, each once: RSASHA1, RSASHA256, RSASHA1NSEC3SHA1, RSASHA512, ECDSAP256SHA256, ECDSAP384SHA384,
+    /// ED25519.
     pub fn iter(&self) -> SupportedAlgorithmsIter<'_>
         ensures { result ≡ members self.now }
     {
@@ -129,7 +130,7 @@ impl SupportedAlgorithms {
     ///
     /// # Errors
     ///
-    /// Want of memory.
+    /// Out of memory.
     pub fn to_vec(&self, alloc: Global) -> Result<Vec<u8>, OutOfMemory>
         ensures { IfOk result (λ numbers. numbers.items ≡ map number (members self.now)) }
     {

@@ -15,11 +15,14 @@ pub one_more_same : (a b : List ℕ) (i difference : ℕ) → i < length a → i
 one_more_same a b i difference in_a in_b so_far = (
   λ none.
       let before : difference ≡ 0 = omega (arith, le_or_l difference (bit_xor (get_or a i 0) (get_or b i 0))) in
-      let here : bit_xor (get_or a i 0) (get_or b i 0) ≡ 0 = omega (arith, le_or_r difference (bit_xor (get_or a i 0) (get_or b i 0))) in
+      let here : bit_xor (get_or a i 0) (get_or b i 0) ≡ 0 =
+      omega (arith, le_or_r difference (bit_xor (get_or a i 0) (get_or b i 0))) in
       take_more_same a b i 0 in_a in_b (so_far.0 before) (same_octet _ _ here),
   λ same.
-      let before : take i a ≡ take i b = sym (take-take i (i + 1) a (omega arith)) ∙ ap (take i) same ∙ take-take i (i + 1) b (omega arith) in
+      let before : take i a ≡ take i b = sym (take-take i (i + 1) a (omega arith)) ∙ ap (take i) same
+      ∙ take-take i (i + 1) b (omega arith) in
       let here : get_or a i 0 ≡ get_or b i 0 =
-      sym (get_or-take (i + 1) a i 0 (omega arith)) ∙ ap (λ (xs : List ℕ). get_or xs i 0) same ∙ get_or-take (i + 1) b i 0 (omega arith) in
+      sym (get_or-take (i + 1) a i 0 (omega arith)) ∙ ap (λ (xs : List ℕ). get_or xs i 0) same
+      ∙ get_or-take (i + 1) b i 0 (omega arith) in
       rw (so_far.1 before, here, xor_self (get_or b i 0)),
 )

@@ -1,5 +1,6 @@
 -- Five bits of two octets, as a number.
-use Rattle.std.proofs.Common.{◌≡◌, ℕ, ◌+◌, ◌-◌, ◌*◌, ◌/◌, ◌%◌, ◌^◌, ◌<◌, ◌≤◌, List, get_or, arith, refl, ap, sym, ◌∙◌, inl, inr}
+use Rattle.std.proofs.Common.{◌≡◌, ℕ, ◌+◌, ◌-◌, ◌*◌, ◌/◌, ◌%◌, ◌^◌, ◌<◌, ◌≤◌, List, get_or, arith, refl, ap, sym, ◌∙◌}
+use Rattle.std.proofs.Common.{inl, inr}
 use Rattle.std.specs.Int.{bit_at}
 use Rattle.std.proofs.Math.Nat.{div-div-eq-div-mul}
 use Rattle.std.proofs.lemmas.Nat.{pow-add}
@@ -22,7 +23,8 @@ bit_of_pair octets start k p e small below = elim (cases_lt k 8) [
       let bit : p % 8 ≡ k = omega arith in
       let high : 8 ≤ 15 - k = omega arith in
       let at : 15 - k - 8 ≡ 7 - k = omega arith in
-      rw (octet, bit, ← at) (sym (bit_at_cat_high (get_or octets start 0) 8 (get_or octets (start + 1) 0) (15 - k) below high))
+      rw (octet, bit, ← at) (sym (bit_at_cat_high (get_or octets start 0) 8 (get_or octets (start + 1) 0) (15 - k)
+      below high))
   | inr second ↦
       let octet : p / 8 ≡ start + 1 = omega arith in
       let bit : 7 - p % 8 ≡ 15 - k = omega arith in

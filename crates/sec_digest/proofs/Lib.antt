@@ -1,3 +1,4 @@
+mod Base32Unique
 mod Blocks
 mod Comparing
 mod DigitSteps
@@ -5,4 +6,3 @@ mod Digits
 mod Finishing
 mod Groups
 mod Lengths
-mod Telling

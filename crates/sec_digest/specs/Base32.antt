@@ -1,6 +1,7 @@
 -- Base32 with the extended hex alphabet, without padding and in lower case, as DNSSEC writes hashed
 -- names (RFC 4648, sections 6 and 7; RFC 5155, section 3.3).
-use Rattle.std.specs.Prelude.{ℕ, ◌+◌, ◌-◌, ◌*◌, ◌/◌, ◌%◌, ◌&&◌, List, length, map, slice_index, codes, Option, Some, None, nat_lt, nat_le, if◌then◌else◌}
+use Rattle.std.specs.Prelude.{ℕ, ◌+◌, ◌-◌, ◌*◌, ◌/◌, ◌%◌, ◌&&◌, List, length, map, slice_index, codes, Option, Some}
+use Rattle.std.specs.Prelude.{None, nat_lt, nat_le, if◌then◌else◌}
 use Rattle.std.specs.Int.{bit_at}
 use Rattle.std.specs.List.{range_with_len}
 

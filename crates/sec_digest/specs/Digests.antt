@@ -1,8 +1,9 @@
 -- The digest types of DS records, and digests of octets by their hash functions; the hash of NSEC3.
-use Rattle.std.specs.Prelude.{ℕ, zero, suc, List, ◌++◌, nat_eq, if◌then◌else◌, Result, Ok, Err}
+use Rattle.std.specs.Prelude.{Bool, true, false, ℕ, zero, suc, List, [], ◌∷◌, ◌++◌, map, unwrap_or, Result, Ok, Err}
 use Rattle.sha1.specs.Sha1.{sha1}
 use Rattle.sha2.specs.Sha256.{sha256}
 use Rattle.sha2.specs.Sha512.{sha384}
+use Rattle.dns_wire.specs.Lookup.{lookup}
 use Rattle.dns_wire.specs.Reading.{◌>>=◌}
 use Rattle.dns_wire.specs.declared.error.DecodeError.{DecodeError}
 use Rattle.dns_wire.specs.declared.error.DecodeError.TheVariants as faults
@@ -18,13 +19,18 @@ digest_number types.SHA256 = 2
 digest_number types.SHA384 = 4
 digest_number (types.Unknown n) = n
 
--- the digest type of a number
+-- the digest types that have a name of their own
+abbrev pub known_types : List DigestType
+known_types = types.SHA1 ∷ types.SHA256 ∷ types.SHA384 ∷ []
+
+-- the digest type of a number, which is unknown where none of these has it
 abbrev pub digest_type : ℕ → DigestType
-digest_type n =
-    if nat_eq n 1 then types.SHA1
-    else if nat_eq n 2 then types.SHA256
-    else if nat_eq n 4 then types.SHA384
-    else types.Unknown n
+digest_type n = unwrap_or (lookup (map (λ kind. (digest_number kind, kind)) known_types) n) (types.Unknown n)
+
+-- whether a digest type is one that is not known
+abbrev pub is_unknown : DigestType → Bool
+is_unknown (types.Unknown n) = true
+is_unknown _ = false
 
 -- the hash function of a digest type, and the refusal of a type that has none here
 abbrev pub hash_function : DigestType → Result (List ℕ → List ℕ) DecodeError

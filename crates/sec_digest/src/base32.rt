@@ -13,15 +13,15 @@ use std::fmt;
 // The digits of base32 with the extended hex alphabet (RFC 4648, table 4), in lower case.
 const DIGITS: [u8; 32] = *b"0123456789abcdefghijklmnopqrstuv";
 
-/// Octets that print as base32 with the extended hex alphabet, in lower case and without padding (RFC 4648, section 7; RFC 5155,
-/// section 3.3): a digit for each five bits from the left, the last filled with zero bits.
+/// Octets that print as base32 with the extended hex alphabet, in lower case and without padding (RFC 4648, section 7;
+/// RFC 5155, section 3.3): a digit for each five bits from the left, the last filled with zero bits.
 #[derive(Clone, Copy)]
 pub struct Base32Text<'a>(pub &'a [u8]);
 
 impl fmt::Display for Base32Text<'_> {
     ghost output = { λ text. Some (base32 text.0.now) };
 
-    #[tactic(auto, using(crate::proofs::DigitSteps::digits_none, crate::proofs::DigitSteps::digits_more, crate::proofs::DigitSteps::digits_all))]
+    #[tactic(auto, using(crate::proofs::DigitSteps::digit_steps))]
     fn fmt<W: fmt::Write>(&self, f: &mut fmt::Formatter<W>) -> fmt::Result {
         let octets = self.0;
         for i in 0..digit_count(octets) {
@@ -36,7 +36,7 @@ impl fmt::Display for Base32Text<'_> {
 ///
 /// # Errors
 ///
-/// Want of memory.
+/// Out of memory.
 pub fn base32_dnssec(alloc: Global, octets: &[u8]) -> Result<String, OutOfMemory>
     ensures { IfOk result (λ text. string_bytes text ≡ base32 octets.now) }
 {
@@ -44,8 +44,8 @@ pub fn base32_dnssec(alloc: Global, octets: &[u8]) -> Result<String, OutOfMemory
     Ok(text)
 }
 
-/// The label of a hashed name, which is its hash in base32 (RFC 5155, section 3). `None` where that is no label: for a hash of no
-/// octet, and of more than 39.
+/// The label of a hashed name, which is its hash in base32 (RFC 5155, section 3). `None` where that is no label: for a
+/// hash of no octet, and of more than 39.
 pub fn base32_label(hash: &[u8]) -> Option<Label>
     ensures { result ≡ hash_label hash.now }
 {

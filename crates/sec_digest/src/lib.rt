@@ -10,8 +10,6 @@ mod hmac;
 pub mod laws;
 mod mac;
 mod nsec3_hash;
-#[cfg(test)]
-mod tests;
 
 pub use base32::{Base32Text, base32_dnssec, base32_label};
 pub use digest::Digest;

@@ -23,7 +23,8 @@ impl TryFrom<u8> for Nsec3HashAlgorithm {
     type Error = DecodeError;
 
     // Number 1 alone has an algorithm, and any other is refused by itself.
-    ghost try_from_gives = { λ number result. MatchResult result (λ _. number ≡ 1) (λ e. (number ≢ 1) × (e ≡ UnknownNsec3HashAlgorithm number)) };
+    ghost try_from_gives = { λ number result. MatchResult result (λ _. number ≡ 1)
+        (λ e. (number ≢ 1) × (e ≡ UnknownNsec3HashAlgorithm number)) };
 
     fn try_from(number: u8) -> Result<Nsec3HashAlgorithm, DecodeError> {
         match number {

@@ -14,7 +14,7 @@ use Rattle.hex.specs.Hex.{upper_digits, encode_with, encode_upper, decode_of}
 use Rattle.hex.proofs.HexLemmas.{decode_of-encode_upper}
 use Rattle.dns_text.specs.HexText.{upper_hex}
 use Rattle.dns_wire.specs.Octets.{AreOctets}
-use Rattle.dns_io.specs.Words.{is_blank, words, number_below}
+use Rattle.dns_text.specs.Words.{is_blank, words, number_below}
 use Rattle.sec_codes.specs.declared.algorithm.Algorithm.{Algorithm}
 use Rattle.sec_codes.specs.Algorithms.{algorithm_numbered, number}
 use Rattle.sec_digest.specs.Digests.{digest_type, digest_number}

@@ -16,8 +16,8 @@ use Rattle.base64.specs.GeneralPurpose.{encode_of, engine_symbols, IsBytes}
 use Rattle.base64.specs.Rfc4648.{encode_symbols, padding_len}
 use Rattle.base64.proofs.EngineFacts.{decode_of-encode_of}
 use Rattle.dns_wire.specs.Octets.{AreOctets}
-use Rattle.dns_io.specs.Words.{is_blank, words, number_below}
-use Rattle.dns_io.proofs.Cuts.{before_yes, before_no, after_yes, after_no, words-cut}
+use Rattle.dns_text.specs.Words.{is_blank, words, number_below}
+use Rattle.dns_text.proofs.Cuts.{before_yes, before_no, after_yes, after_no, words-cut}
 use Rattle.sec_codes.specs.Algorithms.{algorithm_numbered, number}
 use Rattle.sec_keydata.specs.declared.token_error.TokenError.{TokenError}
 use Rattle.sec_keydata.specs.declared.token_error.TokenError.TheVariants.{Missing, BadNumber}

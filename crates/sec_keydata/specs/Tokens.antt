@@ -8,7 +8,7 @@ use Rattle.std.specs.Str.{bytes_eq}
 use Rattle.base64.specs.Engines.{standard}
 use Rattle.base64.specs.GeneralPurpose.{encode_of, decode_of}
 use Rattle.hex.specs.Hex as hexadecimal
-use Rattle.dns_io.specs.Words.{words, number_below}
+use Rattle.dns_text.specs.Words.{words, number_below}
 use Rattle.dns_wire.specs.Reading.{◌>>=◌}
 use Rattle.sec_codes.specs.declared.algorithm.Algorithm.{Algorithm}
 use Rattle.sec_codes.specs.Algorithms.{algorithm_numbered}

@@ -1,7 +1,7 @@
 //! CDNSKEY records.
 ghost use Rattle.std.specs.Prelude.{◌≡◌, Some, IfOk};
 ghost use Rattle.std.specs.Option.{is_none, option_map};
-ghost use Rattle.dns_wire.specs.Reading.{ReadsUnless};
+ghost use Rattle.dns_wire.specs.Reading.{octets, place, ReadsUnless};
 ghost use Rattle.dns_grammar.specs.Fields.{fields_octets};
 ghost use Rattle.dns_grammar.specs.RecordData.{one_type_data_at};
 ghost use Rattle.sec_keydata.specs.KeyRows.{dnskey_row};

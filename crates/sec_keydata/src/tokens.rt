@@ -1,6 +1,6 @@
 //! DNSKEY and DS data read from text (RFC 4034 2.2, 5.3).
 ghost use Rattle.std.specs.Prelude.{◌≡◌, ◌^◌, Some};
-ghost use Rattle.dns_io.specs.Words.{words};
+ghost use Rattle.dns_text.specs.Words.{words};
 ghost use Rattle.dns_wire.specs.Reading.{Gives, GivesUnless};
 ghost use Rattle.sec_keydata.specs.DsData.{ds_data};
 ghost use Rattle.sec_keydata.specs.DnsKeys.{dnskey_data};
@@ -12,7 +12,7 @@ use crate::mnemonics::algorithm_named;
 use crate::token_error::{TokenError, TokenField};
 use base64::DecodeAllocError;
 use base64::engine::general_purpose::STANDARD;
-use dns_io::{number_below, split_word};
+use dns_text::{number_below, split_word};
 use hex::FromHexError;
 use sec_codes::{Algorithm, PublicKeyBuf};
 use sec_digest::DigestType;

@@ -4,8 +4,7 @@ use Rattle.dns_wire.specs.Octets.{two_octets, six_octets}
 use Rattle.dns_names.specs.Names.{wire, IsName}
 use Rattle.dns_grammar.specs.Fields.{Value, fields_octets}
 use Rattle.dns_grammar.specs.Laws.{AreReadBack}
-use Rattle.dns_grammar.specs.Messages as grammar
-use Rattle.dns_grammar.specs.Messages.{TsigData, tsig_values}
+use Rattle.dns_grammar.specs.Messages.{TsigData, tsig_from_values, tsig_values}
 use Rattle.dns_grammar.specs.Tables.{tsig_row}
 use Rattle.dns_grammar.proofs.ReadAgain.{written_row}
 use Rattle.sec_sigdata.specs.TsigAlgorithms.{algorithm_name, tsig_algorithm_named}
@@ -49,7 +48,7 @@ some_same : (x y : TsigData) → Some x ≡ Some y → x ≡ y
 some_same x y e = cc
 
 data_told : (x y : TsigData) → tsig_values x ≡ tsig_values y → x ≡ y
-data_told x y same = some_same x y (ap (λ (vs : List Value). grammar.tsig_data (Some vs)) same)
+data_told x y same = some_same x y (ap (λ (vs : List Value). tsig_from_values (Some vs)) same)
 
 pub fields_told : (x y : TsigFields) → TsigIsByNumber x → TsigIsByNumber y → tsig_values (fields_data x) ≡ tsig_values (fields_data y) → x ≡ y
 fields_told x y a b same =

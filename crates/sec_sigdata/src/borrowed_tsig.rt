@@ -41,7 +41,10 @@ impl<'a> BorrowedTsig<'a> {
     /// The first field that fails decides: `InsufficientBytes` where an octet is needed past `end`, the faults of `Name::read_within` for
     /// the algorithm's name, and `IncorrectRDataLengthRead` where octets are left over.
     #[tactic(auto, unfolding(dns_grammar::specs::RecordData::fields_filling))]
-    pub fn read_within(mut reader: BinDecoder<'a>, end: usize) -> Result<BorrowedTsig<'a>, DecodeError>
+    pub fn read_within(
+        mut reader: BinDecoder<'a>,
+        end: usize,
+    ) -> Result<BorrowedTsig<'a>, DecodeError>
         requires ahead { place reader ≤ end }
         requires inside { end ≤ length (octets reader) }
         ensures exact { Gives borrowed_values result (fields_filling tsig_row (octets reader.entry) (place reader.entry) end) }

@@ -2,6 +2,7 @@
 //! (RFC 5155), TSIG (RFC 8945).
 #![tactic(auto)]
 
+mod borrowed_tsig;
 mod error;
 mod hash_parameters;
 mod hashed_name;
@@ -15,9 +16,9 @@ mod sig_input;
 mod tsig;
 mod tsig_algorithm;
 mod tsig_error;
-mod borrowed_tsig;
 mod type_list;
 
+pub use borrowed_tsig::BorrowedTsig;
 pub use error::{DnsSecError, DnsSecResult};
 pub use nsec::NSEC;
 pub use nsec3::NSEC3;
@@ -28,4 +29,3 @@ pub use sig_input::SigInput;
 pub use tsig::TSIG;
 pub use tsig_algorithm::TsigAlgorithm;
 pub use tsig_error::TsigError;
-pub use borrowed_tsig::BorrowedTsig;

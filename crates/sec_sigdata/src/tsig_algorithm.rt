@@ -1,7 +1,7 @@
 //! The algorithms of TSIG records (RFC 8945 6).
 ghost use Rattle.std.specs.Prelude.{◌≡◌, ◌<◌, ◌≤◌, ◌↔◌, [], ◌∷◌, length, IsOk, Some, Ok};
 ghost use Rattle.dns_names.specs.NameText.{bare_name_text};
-ghost use Rattle.dns_wire.specs.Reading.{Reads, GivesUnless};
+ghost use Rattle.dns_wire.specs.Reading.{octets, place, Reads, GivesUnless};
 ghost use Rattle.dns_names.specs.NameWriting.{name_octets};
 ghost use Rattle.sec_sigdata.specs.TsigAlgorithms.{algorithm_name, algorithm_among, tsig_algorithm_named, algorithm_at, hash_of, supported, algorithm_with, mac_of, checked_mac};
 

@@ -1,5 +1,5 @@
 //! TSIG data read, written and printed, with octets spelled out from RFC 8945 4.2 and 4.3.
-use crate::{TSIG, TsigAlgorithm, TsigError, BorrowedTsig};
+use crate::{BorrowedTsig, TSIG, TsigAlgorithm, TsigError};
 use dns_names::Name;
 use dns_wire::{
     BinDecoder, BinEncodable, BinEncoder, DecodeError, EmitError, NameEncoding, RecordDataDecodable,

@@ -3,4 +3,5 @@ use Rattle.dns_io.proofs.Loops.{written_on}
 use Rattle.dns_io.proofs.transfer.write_all.Goals as goal
 
 pub pieces-preserved : goal.pieces-preserved
-pieces-preserved g c = written_on _ _ _ _ _ _ _ _ _ _ c.pieces.invariant c.in_ok-count.ensures.octets c.write.ensures.faults.later (take_rest c.pieces.rest.now c.in_ok-count.count)
+pieces-preserved g c = written_on _ _ _ _ _ _ _ _ _ _ c.pieces.invariant c.in_ok-count.ensures.octets
+    c.write.ensures.faults.later (take_rest c.pieces.rest.now c.in_ok-count.count)

@@ -9,12 +9,17 @@ returns-then-octet-ne0 c =
     record {
       ahead = omega (arith, next.ahead, c.loop-bit.invariant.ahead);
       passes = next.passes;
-      others = λ k ge lt. elim (cases_lt k c.loop-bit.bit) [ inl before ↦ c.loop-bit.invariant.others k ge before | inr after ↦ next.others k after lt ];
+      others = λ k ge lt. elim (cases_lt k c.loop-bit.bit)
+          [ inl before ↦ c.loop-bit.invariant.others k ge before | inr after ↦ next.others k after lt ];
     }
 
 pub loop-bit-preserved : goal.loop-bit-preserved
 loop-bit-preserved c =
     record {
       ahead = omega (arith, c.loop-bit.invariant.ahead);
-      others = λ k ge lt. elim (cases_lt k c.loop-bit.bit) [ inl before ↦ c.loop-bit.invariant.others k ge before | inr after ↦ no_bit c.args.bits.now c.loop-bit.bit c.loop-bit-test.true (omega (arith, c.if-octet-ne0.false)) k after lt ];
+      others = λ k ge lt. elim (cases_lt k c.loop-bit.bit) [
+        | inl before ↦ c.loop-bit.invariant.others k ge before
+        | inr after ↦ no_bit c.args.bits.now c.loop-bit.bit
+            c.loop-bit-test.true (omega (arith, c.if-octet-ne0.false)) k after lt
+      ];
     }

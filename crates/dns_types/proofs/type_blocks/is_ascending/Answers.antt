@@ -8,7 +8,8 @@ unfolding is_ascending
 loop-block-init c = refl
 
 pub returns-then-from-lowest : goal.returns-then-from-lowest
-returns-then-from-lowest c = sym (descends _ c.in-Some.block _ (sym c.in-Some.ensures) (omega (arith, c.window.ensures, c.from.ensures))) ∙ c.loop-block.invariant
+returns-then-from-lowest c = sym (descends _ c.in-Some.block _ (sym c.in-Some.ensures)
+    (omega (arith, c.window.ensures, c.from.ensures))) ∙ c.loop-block.invariant
 
 pub loop-block-preserved : goal.loop-block-preserved
 loop-block-preserved c =

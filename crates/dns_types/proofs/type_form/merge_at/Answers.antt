@@ -7,5 +7,6 @@ pub returns-clause-merged : goal.returns-clause-merged
 returns-clause-merged c k =
     elim (cases_lt k c.loop-i.i) [
       | inl below ↦ c.loop-i.invariant.merged k below
-      | inr past ↦ c.loop-i.invariant.behind k past ∙ sym (or_past (get_or c.args.octets.now (c.args.start + k) 0) c.args.bits.now k (omega arith))
+      | inr past ↦ c.loop-i.invariant.behind k past
+          ∙ sym (or_past (get_or c.args.octets.now (c.args.start + k) 0) c.args.bits.now k (omega arith))
     ]

@@ -1,6 +1,6 @@
 use Rattle.std.proofs.Common.{◌≡◌, ◌++◌, length}
 use Rattle.std.specs.List.{concat}
-use Rattle.dns_io.specs.Words.{words}
+use Rattle.dns_text.specs.Words.{words}
 use Rattle.sec_keydata.proofs.tokens.joined_words.Given as goal
 
 abbrev pub invariant-words : goal.invariant-words

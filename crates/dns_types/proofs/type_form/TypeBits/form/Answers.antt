@@ -7,4 +7,11 @@ pub push_block-requires : goal.push_block-requires
 push_block-requires c =
     let bits = c.as_slice-bits.result.now in
     let start = 32 * c.loop-window.window in
-    omega (arith, ap length c.trimmed.ensures, length-trimmed (slice_range bits start c.min-end.result), length-take (c.min-end.result - start) (drop start bits), c.min-end.ensures)
+    omega (
+      arith,
+      ap length c.trimmed.ensures,
+      length-trimmed (slice_range bits start c.min-end.result),
+      length-take
+          (c.min-end.result - start) (drop start bits),
+      c.min-end.ensures,
+    )

@@ -5,7 +5,8 @@ use Rattle.dns_types.proofs.type_set.RecordTypeIterIterator.next.Given as goal
 abbrev pub invariant-loop-block : goal.invariant-loop-block
 invariant-loop-block l = record {
   can_walk : CanWalk l.self-inside.rest.now l.self-inside.lowest;
-  left : types_from l.self-inside.rest.now l.self-inside.lowest ≡ types_from l.initial.self-inside.rest.now l.initial.self-inside.lowest;
+  left : types_from l.self-inside.rest.now l.self-inside.lowest
+      ≡ types_from l.initial.self-inside.rest.now l.initial.self-inside.lowest;
 }
 
 abbrev pub decreases-loop-block : goal.decreases-loop-block

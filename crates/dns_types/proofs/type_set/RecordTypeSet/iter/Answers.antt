@@ -9,8 +9,11 @@ use Rattle.dns_types.proofs.type_set.RecordTypeSet.iter.Goals.{in-Some, in-None}
 walked : (c : goal.After-as_slice) → Walks c.self.inside.octets c.as_slice.result.now
 walked c =
     elim c.match-self.branch [
-      | in-Some w ↦ subst (Walks c.self.inside.octets) (sym (c.as_slice.ensures ∙ ap (λ x. x.now) w.octets-is)) (walks_form c.self.inside.octets w.in-Some.ascending (subst (HoldsTypes c.self.inside.octets) w.in-Some.is c.self.invariant))
-      | in-None w ↦ subst (Walks c.self.inside.octets) (sym (c.as_slice.ensures ∙ ap (λ x. x.now) w.octets-is)) (walks_octets c.self.inside.octets (subst (HoldsTypes c.self.inside.octets) w.in-None.is c.self.invariant))
+      | in-Some w ↦ subst (Walks c.self.inside.octets) (sym (c.as_slice.ensures ∙ ap (λ x. x.now) w.octets-is))
+          (walks_form c.self.inside.octets w.in-Some.ascending
+          (subst (HoldsTypes c.self.inside.octets) w.in-Some.is c.self.invariant))
+      | in-None w ↦ subst (Walks c.self.inside.octets) (sym (c.as_slice.ensures ∙ ap (λ x. x.now) w.octets-is))
+          (walks_octets c.self.inside.octets (subst (HoldsTypes c.self.inside.octets) w.in-None.is c.self.invariant))
     ]
 
 pub invariant_of-result : goal.invariant_of-result

@@ -11,7 +11,10 @@ made c = c.from_vec.ensures ∙ c.in_ok-octets.ensures
 pub invariant_of-result : goal.invariant_of-result
 invariant_of-result c =
     let P : List ℕ → Type 0 = λ x. HoldsTypes x None in
-    subst P (sym (made c)) (record { bitmap = form_is_bitmap (is_one_of c.args.types.now); ascends = form_ascends (is_one_of c.args.types.now) })
+    subst P (sym (made c)) (record {
+      bitmap = form_is_bitmap (is_one_of c.args.types.now);
+      ascends = form_ascends (is_one_of c.args.types.now);
+    })
 
 pub returns-clause-members : goal.returns-clause-members
 returns-clause-members c =

@@ -9,12 +9,16 @@ members-preserved c =
     elim c.if-has.branch [
       | then-has w ↦ record {
         inside = omega arith;
-        kept = rw (w.numbers-is, w.count-is, w.from.ensures) (number_kept c.args.self.now seven c.members.algorithm-index c.members.count c.members.numbers c.members-test.true (omega arith) c.members.invariant.kept (sym c.has.ensures ∙ w.if-has.true));
+        kept = rw (w.numbers-is, w.count-is, w.from.ensures)
+            (number_kept c.args.self.now seven c.members.algorithm-index c.members.count c.members.numbers
+            c.members-test.true (omega arith) c.members.invariant.kept (sym c.has.ensures ∙ w.if-has.true));
         room = rw (w.numbers-is, length-set) c.members.invariant.room;
       }
       | else-has w ↦ record {
         inside = omega arith;
-        kept = rw (w.numbers-is, w.count-is) (c.members.invariant.kept ∙ number_passed c.args.self.now seven c.members.algorithm-index c.members-test.true (sym c.has.ensures ∙ w.if-has.false));
+        kept = rw (w.numbers-is, w.count-is) (c.members.invariant.kept
+            ∙ number_passed c.args.self.now seven c.members.algorithm-index c.members-test.true
+            (sym c.has.ensures ∙ w.if-has.false));
         room = rw w.numbers-is c.members.invariant.room;
       }
     ]

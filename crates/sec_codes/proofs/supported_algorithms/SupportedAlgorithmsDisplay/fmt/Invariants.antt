@@ -7,4 +7,5 @@ use Rattle.sec_codes.proofs.supported_algorithms.SupportedAlgorithmsDisplay.fmt.
 
 abbrev pub invariant-loop-algorithm : goal.invariant-loop-algorithm
 invariant-loop-algorithm g l =
-    IsPlainFormatter l.initial.f → HasWritten g.W.Write.write_str_gives l.initial.f (flat_map (λ a. text a ++ codes ", ") l.yielded) l.f
+    IsPlainFormatter l.initial.f → HasWritten g.W.Write.write_str_gives l.initial.f
+    (flat_map (λ a. text a ++ codes ", ") l.yielded) l.f

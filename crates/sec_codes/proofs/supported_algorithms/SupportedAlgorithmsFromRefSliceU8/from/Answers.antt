@@ -9,7 +9,9 @@ use Rattle.sec_codes.proofs.supported_algorithms.SupportedAlgorithmsFromRefSlice
 pub numbers-preserved : goal.numbers-preserved
 numbers-preserved c =
     let P : Algorithm → Type 0 = λ a. Adds c.numbers.supported c.set.new.self a in
-    set_of_next_number c.numbers.supported c.set.new.self c.args.numbers.now c.numbers.number-index c.numbers-test.true c.numbers.invariant (subst P c.from_u8.ensures.algorithm c.set.ensures)
+    set_of_next_number c.numbers.supported c.set.new.self c.args.numbers.now c.numbers.number-index c.numbers-test.true
+    c.numbers.invariant (subst P c.from_u8.ensures.algorithm c.set.ensures)
 
 pub returns : goal.returns
-returns c = let P : List ℕ → Type 0 = λ ns. IsSetOf c.numbers.supported (map algorithm_numbered ns) in subst P (take_all c.numbers.number-index c.args.numbers.now c.numbers-test.false) c.numbers.invariant
+returns c = let P : List ℕ → Type 0 = λ ns. IsSetOf c.numbers.supported (map algorithm_numbered ns) in
+    subst P (take_all c.numbers.number-index c.args.numbers.now c.numbers-test.false) c.numbers.invariant

@@ -1,0 +1,83 @@
+-- Numbers of record types (IANA, Resource Record TYPEs). Another module cites them as `types.TSIG`.
+use Rattle.std.specs.Prelude.{ℕ}
+
+abbrev pub A : ℕ
+A = 1
+
+abbrev pub NS : ℕ
+NS = 2
+
+abbrev pub CNAME : ℕ
+CNAME = 5
+
+abbrev pub SOA : ℕ
+SOA = 6
+
+abbrev pub NULL : ℕ
+NULL = 10
+
+abbrev pub PTR : ℕ
+PTR = 12
+
+abbrev pub MX : ℕ
+MX = 15
+
+abbrev pub TXT : ℕ
+TXT = 16
+
+abbrev pub SIG : ℕ
+SIG = 24
+
+abbrev pub KEY : ℕ
+KEY = 25
+
+abbrev pub AAAA : ℕ
+AAAA = 28
+
+abbrev pub SRV : ℕ
+SRV = 33
+
+abbrev pub NAPTR : ℕ
+NAPTR = 35
+
+abbrev pub DNAME : ℕ
+DNAME = 39
+
+abbrev pub OPT : ℕ
+OPT = 41
+
+abbrev pub DS : ℕ
+DS = 43
+
+abbrev pub RRSIG : ℕ
+RRSIG = 46
+
+abbrev pub NSEC : ℕ
+NSEC = 47
+
+abbrev pub DNSKEY : ℕ
+DNSKEY = 48
+
+abbrev pub NSEC3 : ℕ
+NSEC3 = 50
+
+abbrev pub NSEC3PARAM : ℕ
+NSEC3PARAM = 51
+
+abbrev pub CDS : ℕ
+CDS = 59
+
+abbrev pub CDNSKEY : ℕ
+CDNSKEY = 60
+
+abbrev pub TSIG : ℕ
+TSIG = 250
+
+abbrev pub IXFR : ℕ
+IXFR = 251
+
+abbrev pub AXFR : ℕ
+AXFR = 252
+
+abbrev pub ANY : ℕ
+ANY = 255
