@@ -1,11 +1,11 @@
 -- Record data are read exactly where they stand.
-use Rattle.std.proofs.Common.{◌≡◌, ◌≢◌, ℕ, ◌+◌, ◌-◌, ◌≤◌, ◌<◌, Bool, true, false, cond, eqb, ltb, ◌&&◌, not, List, length, Option, Some, None, Result, Ok, refl, sym, ap, subst, ◌∙◌, arith, eq-eqb}
-use Rattle.std.proofs.lemmas.Bool.{ltb-false, le-ltb, eqb-true, eqb-false, ne_eqb}
+use Rattle.std.proofs.Common.{◌≡◌, ◌≢◌, ℕ, ◌+◌, ◌-◌, ◌≤◌, ◌<◌, Bool, true, false, cond, eqb, ltb, leb, ◌&&◌, not, List, length, Option, Some, None, Result, Ok, refl, sym, ap, subst, ◌∙◌, arith, eq-eqb}
+use Rattle.std.proofs.lemmas.Bool.{ltb-false, le-ltb, le-leb, leb-true, eqb-true, eqb-false, ne_eqb}
 use Rattle.dns_wire.specs.declared.error.DecodeError.{DecodeError}
 use Rattle.dns_wire.specs.declared.error.DecodeError.TheVariants.{InsufficientBytes, IncorrectRDataLengthRead}
 use Rattle.dns_wire.specs.Reading.{◌>>=◌}
 use Rattle.dns_grammar.specs.Fields.{Value, Field, Table, row_of, FieldsAt, fields_at}
-use Rattle.dns_grammar.specs.RecordData.{tsig_type, RowAt, IsEmpty, RDataAt, filled_by, fields_filling, one_type_data_at, rdata_at}
+use Rattle.dns_grammar.specs.RecordData.{tsig_type, RowAt, EmptyAt, RDataAt, is_empty_at, filled_by, fields_filling, one_type_data_at, rdata_at}
 use Rattle.dns_grammar.specs.Laws.{RowIsReadWhereItStands, DataIsReadWhereItStands, OneData}
 use Rattle.dns_wire.proofs.FieldLaws.{is_ok_same, bind_ok, passed}
 use Rattle.dns_grammar.proofs.Steps.{chosen}
@@ -52,33 +52,35 @@ row_is_read fs m p len vs q = (data_stands fs m p len vs q, data_read fs m p len
 -- ---- the data of any type
 
 -- a record that has no data, and may have none
-pub empty_test : (rtype len : ℕ) → eqb len 0 && not (eqb rtype tsig_type) ≡ true → IsEmpty rtype len
-empty_test rtype len h =
-    let b = both_true (eqb len 0) (eqb rtype tsig_type) h in
-    record { empty = eqb-true len 0 b.0; not_tsig = eqb-false rtype tsig_type b.1 }
+pub empty_test : (m : List ℕ) (p len rtype : ℕ) → is_empty_at m p len rtype ≡ true → EmptyAt m p len rtype
+empty_test m p len rtype h =
+    let b = all_true (eqb len 0) (eqb rtype tsig_type) (leb p (length m)) h in
+    record { empty = eqb-true len 0 b.0; not_tsig = eqb-false rtype tsig_type b.1; within = leb-true _ _ b.2 }
   where
-    both_true : (a b : Bool) → a && not b ≡ true → (a ≡ true) × (b ≡ false)
-    both_true true false h = (refl, refl)
-    both_true true true h = absurd cc
-    both_true false b h = absurd cc
+    all_true : (a b c : Bool) → a && (not b && c) ≡ true → (a ≡ true) × (b ≡ false) × (c ≡ true)
+    all_true true false true h = (refl, refl, refl)
+    all_true true false false h = absurd cc
+    all_true true true c h = absurd cc
+    all_true false b c h = absurd cc
 
-pub is_empty_true : (rtype len : ℕ) → IsEmpty rtype len → eqb len 0 && not (eqb rtype tsig_type) ≡ true
-is_empty_true rtype len h =
+pub is_empty_true : (m : List ℕ) (p len rtype : ℕ) → EmptyAt m p len rtype → is_empty_at m p len rtype ≡ true
+is_empty_true m p len rtype h =
     let zero : eqb len 0 ≡ true = eq-eqb len 0 h.empty in
     let other : eqb rtype tsig_type ≡ false = ne_eqb rtype tsig_type h.not_tsig in
-    rw (zero, other) refl
+    let inside : leb p (length m) ≡ true = le-leb _ _ h.within in
+    rw (zero, other, inside) refl
 
-pub is_empty_false : (rtype len : ℕ) → 0 < len → eqb len 0 && not (eqb rtype tsig_type) ≡ false
-is_empty_false rtype len lt = let some : eqb len 0 ≡ false = ne_eqb len 0 (omega (arith, lt)) in rw some refl
+pub is_empty_false : (m : List ℕ) (p len rtype : ℕ) → 0 < len → is_empty_at m p len rtype ≡ false
+is_empty_false m p len rtype lt = let some : eqb len 0 ≡ false = ne_eqb len 0 (omega (arith, lt)) in rw some refl
 
 -- some data, and the place behind them
 abbrev pub some_data : Result (List Value × ℕ) DecodeError → Result (Option (List Value) × ℕ) DecodeError
 some_data read = read >>= λ values. Ok (Some values.0, values.1)
 
-by_test : (table : Table) (m : List ℕ) (p len rtype : ℕ) (rdata : Option (List Value)) (q : ℕ) (b : Bool) → eqb len 0 && not (eqb rtype tsig_type) ≡ b
+by_test : (table : Table) (m : List ℕ) (p len rtype : ℕ) (rdata : Option (List Value)) (q : ℕ) (b : Bool) → is_empty_at m p len rtype ≡ b
     → cond b (Ok (None, p)) (some_data (one_type_data_at (row_of table rtype) m p len)) ≡ Ok (rdata, q) → RDataAt table m p len rtype rdata × (q ≡ p + len)
 by_test table m p len rtype rdata q true is h =
-    let empty = empty_test rtype len is in
+    let empty = empty_test m p len rtype is in
     let zero : len ≡ 0 = empty.empty in
     subst (λ (y : Option (List Value) × ℕ). RDataAt table m p len rtype y.0 × (y.1 ≡ p + len)) (is_ok_same (None, p) (rdata, q) h) (empty, omega (arith, zero))
 by_test table m p len rtype rdata q false is h =
@@ -88,16 +90,16 @@ by_test table m p len rtype rdata q false is h =
 
 pub rdata_stands : (table : Table) (m : List ℕ) (p len rtype : ℕ) (rdata : Option (List Value)) (q : ℕ) → rdata_at table m p len rtype ≡ Ok (rdata, q) → RDataAt table m p len rtype rdata × (q ≡ p + len)
 unfolding rdata_at
-rdata_stands table m p len rtype rdata q h = by_test table m p len rtype rdata q (eqb len 0 && not (eqb rtype tsig_type)) refl h
+rdata_stands table m p len rtype rdata q h = by_test table m p len rtype rdata q (is_empty_at m p len rtype) refl h
 
 pub rdata_read : (table : Table) (m : List ℕ) (p len rtype : ℕ) (rdata : Option (List Value)) (q : ℕ) → RDataAt table m p len rtype rdata × (q ≡ p + len) → rdata_at table m p len rtype ≡ Ok (rdata, q)
 unfolding rdata_at
 rdata_read table m p len rtype None q s =
     let is : len ≡ 0 = s.0.empty in
     let end : q ≡ p = omega (arith, s.1, is) in
-    rw (is_empty_true rtype len s.0, end) refl
+    rw (is_empty_true m p len rtype s.0, end) refl
 rdata_read table m p len rtype (Some vs) q s =
-    rw (is_empty_false rtype len s.0.nonempty, data_read (row_of table rtype) m p len vs q s) refl
+    rw (is_empty_false m p len rtype s.0.nonempty, data_read (row_of table rtype) m p len vs q s) refl
 
 pub data_is_read : (table : Table) → DataIsReadWhereItStands table
 data_is_read table m p len rtype rdata q = (rdata_stands table m p len rtype rdata q, rdata_read table m p len rtype rdata q)

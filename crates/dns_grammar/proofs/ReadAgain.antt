@@ -11,7 +11,7 @@ use Rattle.dns_wire.specs.Octets.{AreOctets, six_octets}
 use Rattle.dns_names.specs.Names.{wire}
 use Rattle.dns_names.specs.NameLaws.{length_lt-wire}
 use Rattle.dns_grammar.specs.Fields.{Size, One, Two, Four, width, limit, Kind, Number, Time, Fixed, Counted, Strings, Rest, Lowered, Kept, Value, Num, Str, Strs, Named, Field, Table, row_of, StringsAt, ValueAt, FieldsAt, counted_octets, strings_octets, value_octets, fields_octets}
-use Rattle.dns_grammar.specs.RecordData.{IsEmpty, one_type_data_at, rdata_at}
+use Rattle.dns_grammar.specs.RecordData.{EmptyAt, one_type_data_at, rdata_at}
 use Rattle.dns_grammar.specs.Laws.{Holds, HoldsAll, rest_is_last, ReadIsReadAgain, WrittenRowIsRead, ReadRowIsReadAgain, WrittenDataIsRead, ReadDataIsReadAgain}
 use Rattle.dns_names.proofs.PlaceLaws.{name_of_octets}
 use Rattle.dns_grammar.proofs.DataLaws.{row_stands, row_is_read, rdata_stands, rdata_read, is_empty_true, is_empty_false}
@@ -174,11 +174,11 @@ pub written_data : (table : Table) → WrittenDataIsRead table
 unfolding rdata_at
 written_data table rtype None x front back last holds is =
     let none : x ≡ [] = sym (ok_octets [] x is) in
-    let empty : IsEmpty rtype (length x) = record { empty = ap length none; not_tsig = holds } in
+    let empty : EmptyAt (front ++ (x ++ back)) (length front) (length x) rtype = record { empty = ap length none; not_tsig = holds; within = omega (arith, length-append front (x ++ back)) } in
     let end : length front ≡ length front + length x = omega (arith, ap length none) in
-    rw (is_empty_true rtype (length x) empty) (ap (λ k. let ok : Result (Option (List Value) × ℕ) DecodeError = Ok (None, k) in ok) end)
+    rw (is_empty_true _ _ _ rtype empty) (ap (λ k. let ok : Result (Option (List Value) × ℕ) DecodeError = Ok (None, k) in ok) end)
 written_data table rtype (Some values) x front back last holds is =
-    rw (is_empty_false rtype (length x) holds.1, written_row (row_of table rtype) last values x front back holds.0 holds.1 is) refl
+    rw (is_empty_false _ _ _ rtype holds.1, written_row (row_of table rtype) last values x front back holds.0 holds.1 is) refl
 
 pub read_data_again : (table : Table) → ReadDataIsReadAgain table
 read_data_again table m p len rtype None q last octets read =

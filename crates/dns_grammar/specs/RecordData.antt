@@ -1,17 +1,18 @@
 -- The data of a record (RFC 1035 3.2.1), by a table of the fields of each type.
 use Rattle.std.specs.Prelude.{◌≡◌, ◌≢◌, ℕ, ◌+◌, ◌-◌, ◌≤◌, ◌<◌, Bool, true, false, ◌&&◌, not, List, [], length, Option}
 use Rattle.std.specs.Prelude.{Some, None}
-use Rattle.std.specs.Prelude.{Result, Ok, Err, nat_lt, nat_eq, if◌then◌else◌}
+use Rattle.std.specs.Prelude.{Result, Ok, Err, nat_lt, nat_le, nat_eq, if◌then◌else◌}
 use Rattle.dns_wire.specs.declared.error.DecodeError.{DecodeError}
 use Rattle.dns_wire.specs.declared.error.DecodeError.TheVariants.{InsufficientBytes, IncorrectRDataLengthRead}
 use Rattle.dns_wire.specs.declared.error.EmitError.{EmitError}
 use Rattle.dns_wire.specs.declared.error.EmitError.TheVariants.{DataTooLong}
 use Rattle.dns_wire.specs.Reading.{◌>>=◌}
+use Rattle.dns_types.specs.TypeNumbers as types
 use Rattle.dns_grammar.specs.Fields.{Value, Field, Table, row_of, FieldsAt, fields_at, fields_octets, SameValues}
 
 -- the type of a transaction signature (RFC 8945 4.1)
 abbrev pub tsig_type : ℕ
-tsig_type = 250
+tsig_type = types.TSIG
 
 -- ---- where data stand
 
@@ -21,15 +22,16 @@ pub record RowAt (fields : List Field) (m : List ℕ) (p len : ℕ) (values : Li
   pub within : p + len ≤ length m
   pub filled : FieldsAt fields m p (p + len) values (p + len)
 
--- a record of this type may have no data, and has none (RFC 2136 2.4, 2.5)
-pub record IsEmpty (rtype len : ℕ) : Type 0 where
+-- no data stand at p of m, in a record of a type that may have none: every type but TSIG (RFC 2136 2.4, 2.5)
+pub record EmptyAt (m : List ℕ) (p len rtype : ℕ) : Type 0 where
   pub empty : len ≡ 0
   pub not_tsig : rtype ≢ tsig_type
+  pub within : p ≤ length m
 
 -- data of len octets stand at p of m, in a record of this type
 abbrev pub RDataAt : Table → List ℕ → ℕ → ℕ → ℕ → Option (List Value) → Type 0
 RDataAt table m p len rtype (Some values) = RowAt (row_of table rtype) m p len values
-RDataAt table m p len rtype None = IsEmpty rtype len
+RDataAt table m p len rtype None = EmptyAt m p len rtype
 
 -- ---- how data are read
 
@@ -51,11 +53,15 @@ one_type_data_at fields m p len =
     else if nat_eq len 0 then Err InsufficientBytes
     else (fields_filling fields m p (p + len) >>= λ values. Ok (values, p + len))
 
--- What reading the data of a record of this type gives, len octets from p, and the place behind them; or the first
--- fault. Every type but TSIG may have no data. Otherwise they are read as the data of their type.
+-- whether a record of this type has no data at p of m, and may have none
+abbrev pub is_empty_at : List ℕ → ℕ → ℕ → ℕ → Bool
+is_empty_at m p len rtype = nat_eq len 0 && (not (nat_eq rtype tsig_type) && nat_le p (length m))
+
+-- What reading the data of a record of this type gives, len octets from p, and the place behind them; or the first fault.
+-- Every type but TSIG may have no data. Otherwise they are read as the data of their type.
 unfoldable pub rdata_at : Table → List ℕ → ℕ → ℕ → ℕ → Result (Option (List Value) × ℕ) DecodeError
 rdata_at table m p len rtype =
-    if nat_eq len 0 && not (nat_eq rtype tsig_type) then Ok (None, p)
+    if is_empty_at m p len rtype then Ok (None, p)
     else (one_type_data_at (row_of table rtype) m p len >>= λ values. Ok (Some values.0, values.1))
 
 -- ---- how data are written

@@ -1,12 +1,13 @@
 -- The tables that say which fields each type of record has.
 use Rattle.std.specs.Prelude.{◌≡◌, ℕ, List, [], ◌∷◌}
 use Rattle.dns_wire.specs.declared.error.EmitError.TheVariants.{MacTooLong, OtherTooLong}
+use Rattle.dns_types.specs.TypeNumbers as types
 use Rattle.dns_grammar.specs.Fields.{Two, Number, Time, Fixed, Counted, Kept, Field, Table, any, row_of}
 use Rattle.dns_grammar.specs.RecordData.{tsig_type}
 
 -- the type of an address (RFC 1035 3.2.2)
 abbrev pub a_type : ℕ
-a_type = 1
+a_type = types.A
 
 -- an address (RFC 1035 3.4.1)
 abbrev pub a_row : List Field

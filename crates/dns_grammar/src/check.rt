@@ -10,6 +10,7 @@ ghost use Rattle.dns_grammar.specs.FieldForms.{form_field, form_fields};
 
 use crate::span::{data_end, expect_end};
 use dns_names::skip_name;
+use dns_types::RecordType;
 use dns_wire::{BinDecoder, DecodeError, EmitError};
 
 /// A field whose values are tested.
@@ -242,9 +243,6 @@ pub fn check_row<T: TestedField>(
     Ok(())
 }
 
-/// The type of a transaction signature (RFC 8945 4.1).
-const TSIG_TYPE: u16 = 250;
-
 /// Checks the data of a record of type `rtype`, whose fields are these, `len` octets of them, and goes behind them.
 ///
 /// # Errors
@@ -253,7 +251,7 @@ const TSIG_TYPE: u16 = 250;
 #[tactic(auto, unfolding(crate::specs::RecordData::rdata_at))]
 pub fn check_rdata<T: TestedField>(
     decoder: &mut BinDecoder<'_>,
-    rtype: u16,
+    rtype: RecordType,
     len: u16,
     fields: &[FieldForm<T>],
     jumps: &mut [u16],
@@ -264,7 +262,7 @@ pub fn check_rdata<T: TestedField>(
         (skipped (rdata_at table (octets decoder.old) (place decoder.old) len rtype)) }
     ensures jumps { AreJumps (octets decoder.old) jumps.new }
 {
-    if len == 0 && rtype != TSIG_TYPE {
+    if len == 0 && rtype != RecordType::TSIG {
         return Ok(());
     }
     check_row(decoder, len, fields, jumps)

@@ -5,6 +5,7 @@ ghost use Rattle.dns_grammar.specs.Tables.{short_table};
 ghost use Rattle.dns_grammar.specs.FieldForms.{form_fields};
 
 use crate::check::{FieldForm, TestedField, Untested};
+use dns_types::RecordType;
 use dns_wire::EmitError;
 
 /// An address (RFC 1035 3.4.1).
@@ -25,12 +26,14 @@ static TSIG: [FieldForm<Untested>; 7] = [
 static UNKNOWN: [FieldForm<Untested>; 1] = [FieldForm::Octets];
 
 /// The fields of a type, where only those of A and TSIG are known.
-pub fn short_row(rtype: u16) -> &'static [FieldForm<Untested>]
+pub fn short_row(rtype: RecordType) -> &'static [FieldForm<Untested>]
     ensures { form_fields ⟦<Untested as TestedField>⟧.field result.now ≡ row_of short_table rtype }
 {
-    match rtype {
-        1 => &ADDRESS,
-        250 => &TSIG,
-        _ => &UNKNOWN,
+    if rtype == RecordType::A {
+        &ADDRESS
+    } else if rtype == RecordType::TSIG {
+        &TSIG
+    } else {
+        &UNKNOWN
     }
 }

@@ -1,8 +1,10 @@
 //! Fields written and ends of data found, with octets spelled out from RFC 1035 3.3 and 4.1 and RFC 8945 4.2.
 use dns_grammar::{
-    FieldForm, FieldOut, TestedField, check_fields, check_rdata, check_row, data_end, emit_fields, expect_end, short_row,
+    FieldForm, FieldOut, TestedField, check_fields, check_rdata, check_row, data_end, emit_fields,
+    expect_end, short_row,
 };
 use dns_names::Name;
+use dns_types::RecordType;
 use dns_wire::{BinDecoder, BinEncoder, DecodeError, EmitError, Octets};
 use std::test::Fail;
 
@@ -40,7 +42,10 @@ fn strings_are_written_behind_their_counts(rt: HostRuntime) -> Result<(), Fail> 
         Octets::from_slice(alloc, &[])?,
     ];
     let mut encoder = BinEncoder::new(alloc);
-    emit_fields(&mut encoder, &[FieldOut::U8(9), FieldOut::Strings(&strings)])?;
+    emit_fields(
+        &mut encoder,
+        &[FieldOut::U8(9), FieldOut::Strings(&strings)],
+    )?;
     assert_eq!(rt; encoder.as_slice(), [9u8, 2, b'a', b'b', 0].as_slice());
     let long = [
         Octets::from_slice(alloc, b"c")?,
@@ -146,8 +151,8 @@ fn tested_fields_are_checked_in_turn(rt: HostRuntime) -> Result<(), Fail> {
 #[test]
 fn fields_of_each_form_are_checked(rt: HostRuntime) -> Result<(), Fail> {
     let octets = [
-        7u8, 1, 44, 10, 11, 12, 13, 1, 2, 3, 4, 5, 6, 9, 9, 9, 1, 0xaa, 0, 2, 0xbb, 0xcc, 1, b'a', 0,
-        0xc0, 22, 1, b's', 0,
+        7u8, 1, 44, 10, 11, 12, 13, 1, 2, 3, 4, 5, 6, 9, 9, 9, 1, 0xaa, 0, 2, 0xbb, 0xcc, 1, b'a',
+        0, 0xc0, 22, 1, b's', 0,
     ];
     let forms: [FieldForm<Protocol>; 10] = [
         FieldForm::U8,
@@ -177,18 +182,57 @@ fn fields_of_each_form_are_checked(rt: HostRuntime) -> Result<(), Fail> {
 fn data_are_checked_by_their_type(rt: HostRuntime) -> Result<(), Fail> {
     let octets = [192u8, 0, 2, 1, 7];
     let mut reader = BinDecoder::new(&octets);
-    assert_eq!(rt; check_rdata(&mut reader, 1, 4, short_row(1), &mut []), Ok(()));
-    assert_eq!(rt; reader.index(), 4);
-    assert_eq!(rt; check_rdata(&mut reader, 16, 0, short_row(16), &mut []), Ok(()));
     assert_eq!(rt;
-        check_rdata(&mut reader, 250, 0, short_row(250), &mut []),
+        check_rdata(
+            &mut reader,
+            RecordType::A,
+            4,
+            short_row(RecordType::A),
+            &mut []
+        ),
+        Ok(())
+    );
+    assert_eq!(rt; reader.index(), 4);
+    assert_eq!(rt;
+        check_rdata(
+            &mut reader,
+            RecordType::TXT,
+            0,
+            short_row(RecordType::TXT),
+            &mut []
+        ),
+        Ok(())
+    );
+    assert_eq!(rt;
+        check_rdata(
+            &mut reader,
+            RecordType::TSIG,
+            0,
+            short_row(RecordType::TSIG),
+            &mut []
+        ),
         Err(DecodeError::InsufficientBytes)
     );
     let mut left_over = BinDecoder::new(&octets);
     assert_eq!(rt;
-        check_rdata(&mut left_over, 1, 5, short_row(1), &mut []),
+        check_rdata(
+            &mut left_over,
+            RecordType::A,
+            5,
+            short_row(RecordType::A),
+            &mut []
+        ),
         Err(DecodeError::IncorrectRDataLengthRead { read: 4, len: 5 })
     );
-    assert_eq!(rt; check_rdata(&mut left_over, 16, 5, short_row(16), &mut []), Ok(()));
+    assert_eq!(rt;
+        check_rdata(
+            &mut left_over,
+            RecordType::TXT,
+            5,
+            short_row(RecordType::TXT),
+            &mut []
+        ),
+        Ok(())
+    );
     Ok(())
 }
