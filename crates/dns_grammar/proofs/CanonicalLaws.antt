@@ -1,6 +1,6 @@
 -- Canonical form writes what it shows.
 use Rattle.std.proofs.Common.{◌≡◌, ℕ, true, false, List, [], ◌∷◌, Some, None, refl, sym, ap, ◌∙◌}
-use Rattle.dns_grammar.specs.Fields.{Kind, Lowered, Value, Named, Field, Table, joined, value_octets, fields_octets, SameValue, SameValues}
+use Rattle.dns_grammar.specs.Fields.{Kind, Lowered, Value, Named, Field, Table, row_of, joined, value_octets, fields_octets, SameValue, SameValues}
 use Rattle.dns_grammar.specs.RecordData.{fitting}
 use Rattle.dns_grammar.specs.Laws.{shown_value, shown_values, CanonicalIsPlain, AgreeingHaveOneForm}
 
@@ -28,6 +28,6 @@ values_agree fields vs ws same = fields_canonical fields vs ∙ ap (fields_octet
 
 pub agreeing_have_one_form : (table : Table) → AgreeingHaveOneForm table
 agreeing_have_one_form table rtype None None same = refl
-agreeing_have_one_form table rtype (Some vs) (Some ws) same = ap fitting (values_agree (table rtype) vs ws same)
+agreeing_have_one_form table rtype (Some vs) (Some ws) same = ap fitting (values_agree (row_of table rtype) vs ws same)
 agreeing_have_one_form table rtype None (Some ws) same = absurd same
 agreeing_have_one_form table rtype (Some vs) None same = absurd same

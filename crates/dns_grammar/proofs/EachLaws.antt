@@ -1,9 +1,9 @@
 -- Values one behind the other are read exactly where they stand.
-use Rattle.std.proofs.Common.{◌≡◌, ℕ, zero, suc, List, [], ◌∷◌, ◌++◌, length, Result, Ok, refl, sym, ap, subst}
+use Rattle.std.proofs.Common.{◌≡◌, ℕ, zero, suc, ◌-◌, List, [], ◌∷◌, ◌++◌, length, Some, Result, Ok, refl, sym, ap, subst, arith}
 use Rattle.std.specs.List.{AllByRecursion}
 use Rattle.dns_wire.specs.declared.error.DecodeError.{DecodeError}
 use Rattle.dns_wire.specs.Reading.{each_at}
-use Rattle.dns_grammar.specs.Messages.{EachAt}
+use Rattle.dns_grammar.specs.Messages.{EachAt, last_of, before_last}
 use Rattle.dns_wire.proofs.FieldLaws.{is_ok_same, bind_ok}
 
 pub each_stands : {A : Type 0} (read : ℕ → Result (A × ℕ) DecodeError) (at : ℕ → A → ℕ → Type 0) → ((p : ℕ) (x : A) (q : ℕ) → read p ≡ Ok (x, q) → at p x q)
@@ -32,11 +32,29 @@ pub each_both : {A : Type 0} (at : ℕ → A → ℕ → Type 0) (P : A → Type
 each_both at P p [] q s all = s
 each_both at P p (x ∷ xs) q s all = (s.0, (s.1, all.0), each_both at P s.0 xs q s.2 all.1)
 
--- one more at the end
-pub each_more : {A : Type 0} (at : ℕ → A → ℕ → Type 0) (p : ℕ) (xs : List A) (r : ℕ) (x : A) (q : ℕ) → EachAt at p xs r → at r x q → EachAt at p (xs ++ x ∷ []) q
-each_more at p [] r x q s one = (q, subst (λ k. at k x q) s one, refl)
-each_more at p (y ∷ ys) r x q s one = (s.0, s.1, each_more at s.0 ys r x q s.2 one)
+-- ---- the last of them, and those before it
 
-pub each_last : {A : Type 0} (at : ℕ → A → ℕ → Type 0) (p : ℕ) (xs : List A) (x : A) (q : ℕ) → EachAt at p (xs ++ x ∷ []) q → (r : ℕ) × EachAt at p xs r × at r x q
-each_last at p [] x q s = (p, refl, subst (λ k. at p x k) (sym s.2) s.1)
-each_last at p (y ∷ ys) x q s = let rest = each_last at s.0 ys x q s.2 in (rest.0, (s.0, s.1, rest.1), rest.2)
+-- the last stands behind those before it
+pub each_last : {A : Type 0} (at : ℕ → A → ℕ → Type 0) (p : ℕ) (xs : List A) (x : A) (q : ℕ) → last_of xs ≡ Some x → EachAt at p xs q
+    → (r : ℕ) × EachAt at p (before_last xs) r × at r x q
+each_last at p [] x q last s = absurd cc
+each_last {A} at p (y ∷ []) x q last s =
+    let same : y ≡ x = cc in
+    (p, refl, subst (λ (z : A). at p z q) same (subst (λ k. at p y k) (sym s.2) s.1))
+each_last at p (y ∷ z ∷ ys) x q last s = let rest = each_last at s.0 (z ∷ ys) x q last s.2 in (rest.0, (s.0, s.1, rest.1), rest.2)
+
+pub length-before_last : {A : Type 0} (xs : List A) → length (before_last xs) ≡ length xs - 1
+length-before_last [] = refl
+length-before_last (x ∷ []) = refl
+length-before_last (x ∷ y ∷ xs) = let rest = length-before_last (y ∷ xs) in omega (arith, rest)
+
+-- a list with one more at the end
+pub last_of-more : {A : Type 0} (xs : List A) (x : A) → last_of (xs ++ x ∷ []) ≡ Some x
+last_of-more [] x = refl
+last_of-more (y ∷ []) x = refl
+last_of-more (y ∷ z ∷ ys) x = last_of-more (z ∷ ys) x
+
+pub before_last-more : {A : Type 0} (xs : List A) (x : A) → before_last (xs ++ x ∷ []) ≡ xs
+before_last-more [] x = refl
+before_last-more (y ∷ []) x = refl
+before_last-more (y ∷ z ∷ ys) x = ap (λ l. y ∷ l) (before_last-more (z ∷ ys) x)

@@ -30,7 +30,7 @@ unfolding strings_at
 strings_more most m p e lt = let test : leb e p ≡ false = lt-leb _ _ lt in rw test refl
 
 -- a string has its count at least
-counted_forward : (m : List ℕ) (p e : ℕ) (x : List ℕ) (q : ℕ) → CountedAt w8 m p e x q → p < q
+pub counted_forward : (m : List ℕ) (p e : ℕ) (x : List ℕ) (q : ℕ) → CountedAt w8 m p e x q → p < q
 counted_forward m p e x q s = let count = s.2.1 in omega (arith, count.end, s.3.end)
 
 strings_stand_at_end : (most : ℕ) (m : List ℕ) (p e : ℕ) (strings : List (List ℕ)) (q : ℕ) → e ≤ p → strings_at most m p e ≡ Ok (strings, q) → StringsAt m p e strings q

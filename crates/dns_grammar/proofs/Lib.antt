@@ -14,3 +14,5 @@ pub mod ExtentLaws
 pub mod StartLaws
 pub mod RecordBack
 pub mod RowReaderLaws
+pub mod MessageBack
+pub mod CheckLaws

@@ -1,5 +1,5 @@
 -- Values that stand somewhere can be written.
-use Rattle.std.proofs.Common.{◌≡◌, ◌≢◌, ℕ, zero, suc, ◌+◌, ◌-◌, ◌^◌, ◌≤◌, ◌<◌, true, false, eqb, ltb, List, [], ◌∷◌, ◌++◌, length, take, drop, get_or, Option, None, Some, Result, Ok, refl, sym, ap, subst, ◌∙◌, arith, length-append, eq-eqb}
+use Rattle.std.proofs.Common.{◌≡◌, ◌≢◌, ℕ, zero, suc, ◌+◌, ◌-◌, ◌^◌, ◌≤◌, ◌<◌, true, false, eqb, ltb, List, [], ◌∷◌, ◌++◌, length, take, drop, get_or, Option, None, Some, Result, Ok, refl, sym, ap, subst, ◌∙◌, arith, length-append}
 use Rattle.std.proofs.lemmas.List.{length-take, length-drop}
 use Rattle.std.proofs.lemmas.Bool.{lt-ltb, le-ltb, ne_eqb}
 use Rattle.std.specs.Int.{w16, w32, byte_len, from_be_bytes}
@@ -10,11 +10,11 @@ use Rattle.dns_wire.specs.Reading.{OctetsAt, NumberAt, TimeAt, CountedAt}
 use Rattle.dns_wire.specs.Octets.{AreOctets, six_octets}
 use Rattle.dns_names.specs.Names.{wire}
 use Rattle.dns_names.specs.NameLaws.{length_lt-wire}
-use Rattle.dns_grammar.specs.Fields.{Size, One, Two, Four, width, limit, Kind, Number, Time, Fixed, Counted, Strings, Rest, Lowered, Kept, Value, Num, Str, Strs, Named, Field, Table, StringsAt, ValueAt, FieldsAt, counted_octets, strings_octets, value_octets, fields_octets}
-use Rattle.dns_grammar.specs.RecordData.{tsig_type, one_type_data_at, rdata_at}
+use Rattle.dns_grammar.specs.Fields.{Size, One, Two, Four, width, limit, Kind, Number, Time, Fixed, Counted, Strings, Rest, Lowered, Kept, Value, Num, Str, Strs, Named, Field, Table, row_of, StringsAt, ValueAt, FieldsAt, counted_octets, strings_octets, value_octets, fields_octets}
+use Rattle.dns_grammar.specs.RecordData.{EmptyAt, one_type_data_at, rdata_at}
 use Rattle.dns_grammar.specs.Laws.{Holds, HoldsAll, rest_is_last, ReadIsReadAgain, WrittenRowIsRead, ReadRowIsReadAgain, WrittenDataIsRead, ReadDataIsReadAgain}
 use Rattle.dns_names.proofs.PlaceLaws.{name_of_octets}
-use Rattle.dns_grammar.proofs.DataLaws.{row_stands, row_is_read, rdata_stands}
+use Rattle.dns_grammar.proofs.DataLaws.{row_stands, row_is_read, rdata_stands, rdata_read, is_empty_true, is_empty_false}
 use Rattle.dns_grammar.proofs.ReadBack.{with_count, ok_octets, chose_octets, joins, written_reads}
 
 -- ---- octets stay octets
@@ -174,16 +174,11 @@ pub written_data : (table : Table) → WrittenDataIsRead table
 unfolding rdata_at
 written_data table rtype None x front back last holds is =
     let none : x ≡ [] = sym (ok_octets [] x is) in
-    let fits : ltb (length (front ++ (x ++ back))) (length front + length x) ≡ false = le-ltb _ _ (omega (arith, length-append front (x ++ back), length-append x back)) in
-    let zero : eqb (length x) 0 ≡ true = eq-eqb (length x) 0 (ap length none) in
-    let other : eqb rtype tsig_type ≡ false = ne_eqb rtype tsig_type holds in
+    let empty : EmptyAt (front ++ (x ++ back)) (length front) (length x) rtype = record { empty = ap length none; not_tsig = holds; within = omega (arith, length-append front (x ++ back)) } in
     let end : length front ≡ length front + length x = omega (arith, ap length none) in
-    rw (fits, zero, other) (ap (λ k. let ok : Result (Option (List Value) × ℕ) DecodeError = Ok (None, k) in ok) end)
+    rw (is_empty_true _ _ _ rtype empty) (ap (λ k. let ok : Result (Option (List Value) × ℕ) DecodeError = Ok (None, k) in ok) end)
 written_data table rtype (Some values) x front back last holds is =
-    let fits : ltb (length (front ++ (x ++ back))) (length front + length x) ≡ false = le-ltb _ _ (omega (arith, length-append front (x ++ back), length-append x back)) in
-    let lt : 0 < length x = holds.1 in
-    let some : eqb (length x) 0 ≡ false = ne_eqb (length x) 0 (omega (arith, lt)) in
-    rw (fits, some, written_reads (table rtype) values x front back last holds.0 is) refl
+    rw (is_empty_false _ _ _ rtype holds.1, written_row (row_of table rtype) last values x front back holds.0 holds.1 is) refl
 
 pub read_data_again : (table : Table) → ReadDataIsReadAgain table
 read_data_again table m p len rtype None q last octets read =
@@ -191,7 +186,5 @@ read_data_again table m p len rtype None q last octets read =
     ([], refl, λ front back. written_data table rtype None [] front back last s.0.not_tsig refl)
 read_data_again table m p len rtype (Some values) q last octets read =
     let s = rdata_stands table m p len rtype (Some values) q read in
-    let c = can_write_all (table rtype) m p (p + len) values (p + len) octets s.0.filled in
-    let lt : 0 < len = s.0.nonempty in
-    let some : 0 < length c.octets = positive (length c.octets) (λ none. absurd (omega (arith, lt, fields_some (table rtype) m p (p + len) values (p + len) c.octets s.0.within s.0.filled c.written none))) in
-    (c.octets, c.written, λ front back. written_data table rtype (Some values) c.octets front back last (c.holds, some) c.written)
+    let row = read_row_again (row_of table rtype) last m p len values q octets ((row_is_read (row_of table rtype) m p len values q).1 s) in
+    (row.0, row.1, λ front back. rdata_read table _ _ _ rtype (Some values) _ ((row_is_read (row_of table rtype) _ _ _ values _).0 (row.2 front back)))

@@ -2,7 +2,10 @@ pub mod Fields
 pub mod RecordData
 pub mod Tables
 pub mod Messages
+pub mod MessageWriting
 pub mod Extents
 pub mod FieldsOut
 pub mod Laws
 pub mod RowReaders
+pub mod Checks
+pub mod FieldForms

@@ -7,9 +7,9 @@ ghost use Rattle.sec_keydata.specs.DnsKeys.{dnskey_data};
 ghost use Rattle.sec_keydata.specs.KeyDigests.{ds_digest, secure_entry_key, ds_of_key, covered};
 
 use crate::dnskey::DNSKEY;
+use crate::dnskey_fields::DnskeyFields;
 use crate::ds::DS;
 use crate::key_data_error::KeyDataError;
-use crate::dnskey_fields::DnskeyFields;
 use dns_names::Name;
 use dns_wire::OutOfMemory;
 use sec_codes::{PublicKey, PublicKeyBuf};

@@ -4,8 +4,8 @@ ghost use Rattle.sec_keydata.specs.DnsKeys.{dnskey_data};
 ghost use Rattle.sec_keydata.specs.KeyTags.{octet_sum, folded, key_tag, dnskey_tag};
 
 use crate::dnskey::DNSKEY;
-use crate::key_data_error::KeyDataError;
 use crate::dnskey_fields::DnskeyFields;
+use crate::key_data_error::KeyDataError;
 
 impl DNSKEY {
     /// The tag of the key, by which a DS or an RRSIG names it (RFC 4034 appendix B). It is computed in this way for every algorithm.

@@ -57,10 +57,6 @@ sig_values sig = input_values sig.input ++ Str sig.sig ∷ []
 abbrev pub SigIsByNumber : SigData → Type 0
 SigIsByNumber sig = sig.input.algorithm ≡ algorithm_numbered (number sig.input.algorithm)
 
--- The answer, seen by view, is what reading the row gives, its values or the first fault, or want of memory.
-abbrev pub sig_is_read : {X : Type 0} → (X → SigData) → ℕ → BinDecoder → BinDecoder → Result X DecodeError → Type 0
-sig_is_read view len old new result = ReadsUnless (λ sig. sig_values (view sig)) result old new (one_type_data_at sig_row (octets old) (place old) len) × IfOk result (λ sig. SigIsByNumber (view sig))
-
 -- ---- the text (RFC 4034 3.2)
 
 -- type covered, name of the algorithm, labels

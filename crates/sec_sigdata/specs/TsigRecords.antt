@@ -65,11 +65,6 @@ pub record TsigFits (tsig : TsigFields) : Type 0 where
   pub mac : length tsig.mac < 2 ^ 16
   pub other : length tsig.other < 2 ^ 16
 
--- The answer is what reading the row gives, its values or the first fault, or want of memory.
-abbrev pub tsig_is_read : ℕ → BinDecoder → BinDecoder → Result TSIG DecodeError → Type 0
-tsig_is_read len old new result =
-    ReadsUnless (λ tsig. tsig_values (tsig_data tsig)) result old new (one_type_data_at tsig_row (octets old) (place old) len) × IfOk result (λ tsig. TsigIsByNumber (tsig_fields tsig)) × IfOk result (λ tsig. TsigFits (tsig_fields tsig))
-
 -- ---- text
 
 -- algorithm, time, fudge and MAC

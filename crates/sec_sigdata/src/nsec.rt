@@ -3,6 +3,7 @@ ghost use Rattle.std.specs.Prelude.{◌≡◌, ◌++◌, ◌∷◌, [], Some, If
 ghost use Rattle.dns_wire.specs.Reading.{octets, place, ReadsUnless};
 ghost use Rattle.dns_types.specs.TypeSets.{form_of, is_one_of, types};
 ghost use Rattle.dns_grammar.specs.Fields.{fields_octets};
+ghost use Rattle.dns_grammar.specs.RowReaders.{ReadsRow};
 ghost use Rattle.dns_grammar.specs.RecordData.{one_type_data_at};
 ghost use Rattle.sec_sigdata.specs.SignatureRows.{nsec_row};
 ghost use Rattle.sec_sigdata.specs.TypeLists as specs;
@@ -104,22 +105,17 @@ impl NSEC {
             types: self.types.try_clone()?,
         })
     }
-}
 
-impl<'r> RecordDataDecodable<'r> for NSEC {
-    ghost is_read = { λ len old new result. ReadsUnless (λ nsec. nsec_values (nsec_data nsec)) result old new (one_type_data_at nsec_row (octets old) (place old) len) };
-
-    /// Reads the next name and the types.
-    ///
-    /// # Errors
-    ///
-    /// `InsufficientBytes` where an octet is needed past the data, `NameMalformed`, `BitmapMalformed`, or `OutOfMemory`.
+    /// Reads the fields of the data.
     #[tactic(auto, unfolding(dns_grammar::specs::RecordData::one_type_data_at, dns_grammar::specs::RecordData::fields_filling))]
-    fn read_data(
+    fn read_fields(
         alloc: Global,
-        decoder: &mut BinDecoder<'r>,
+        decoder: &mut BinDecoder<'_>,
         length: u16,
-    ) -> Result<NSEC, DecodeError> {
+    ) -> Result<NSEC, DecodeError>
+        ensures { ReadsUnless (λ nsec. nsec_values (nsec_data nsec)) result decoder.old decoder.new
+            (one_type_data_at nsec_row (octets decoder.old) (place decoder.old) length) }
+    {
         let end = data_end(decoder, length)?;
         let mut reader = *decoder;
         let next_domain_name = Name::read_within(&mut reader, end)?;
@@ -129,6 +125,24 @@ impl<'r> RecordDataDecodable<'r> for NSEC {
             next_domain_name,
             types,
         })
+    }
+}
+
+impl<'r> RecordDataDecodable<'r> for NSEC {
+    ghost is_read = { ReadsRow nsec_row (λ nsec. nsec_values (nsec_data nsec)) (λ _. Unit {0}) };
+
+    /// Reads the next name and the types.
+    ///
+    /// # Errors
+    ///
+    /// `InsufficientBytes` where an octet is needed past the data, `NameMalformed`, `BitmapMalformed`, or `OutOfMemory`.
+    #[tactic(auto, using(dns_grammar::proofs::RowReaderLaws::reads_plain_row))]
+    fn read_data(
+        alloc: Global,
+        decoder: &mut BinDecoder<'r>,
+        length: u16,
+    ) -> Result<NSEC, DecodeError> {
+        NSEC::read_fields(alloc, decoder, length)
     }
 }
 

@@ -4,6 +4,7 @@ ghost use Rattle.std.specs.Option.{option_map};
 ghost use Rattle.dns_wire.specs.Reading.{octets, place, ReadsUnless};
 ghost use Rattle.dns_types.specs.TypeSets.{form_of, is_one_of, types};
 ghost use Rattle.dns_grammar.specs.Fields.{fields_octets};
+ghost use Rattle.dns_grammar.specs.RowReaders.{ReadsRow};
 ghost use Rattle.dns_grammar.specs.RecordData.{one_type_data_at};
 ghost use Rattle.sec_sigdata.specs.SignatureRows.{nsec3_row};
 ghost use Rattle.sec_digest.specs.Base32.{hash_label};
@@ -154,23 +155,17 @@ impl NSEC3 {
             types: self.types.try_clone()?,
         })
     }
-}
 
-impl<'r> RecordDataDecodable<'r> for NSEC3 {
-    ghost is_read = { λ len old new result. ReadsUnless (λ nsec3. nsec3_values (nsec3_data nsec3)) result old new (one_type_data_at nsec3_row (octets old) (place old) len) };
-
-    /// Reads hash algorithm, flags, iterations, salt, the next hash and the types.
-    ///
-    /// # Errors
-    ///
-    /// `InsufficientBytes` where an octet is needed past the data, `UnknownNsec3HashAlgorithm`, `UnrecognizedNsec3Flags`,
-    /// `BitmapMalformed`, or `OutOfMemory`.
+    /// Reads the fields of the data.
     #[tactic(auto, unfolding(dns_grammar::specs::RecordData::one_type_data_at, dns_grammar::specs::RecordData::fields_filling))]
-    fn read_data(
+    fn read_fields(
         alloc: Global,
-        decoder: &mut BinDecoder<'r>,
+        decoder: &mut BinDecoder<'_>,
         length: u16,
-    ) -> Result<NSEC3, DecodeError> {
+    ) -> Result<NSEC3, DecodeError>
+        ensures { ReadsUnless (λ nsec3. nsec3_values (nsec3_data nsec3)) result decoder.old decoder.new
+            (one_type_data_at nsec3_row (octets decoder.old) (place decoder.old) length) }
+    {
         let end = data_end(decoder, length)?;
         let mut reader = *decoder;
         let parameters = HashParameters::read_within(alloc, &mut reader, end)?;
@@ -182,6 +177,25 @@ impl<'r> RecordDataDecodable<'r> for NSEC3 {
             next_hashed_owner_name: HashedName::new(hash),
             types,
         })
+    }
+}
+
+impl<'r> RecordDataDecodable<'r> for NSEC3 {
+    ghost is_read = { ReadsRow nsec3_row (λ nsec3. nsec3_values (nsec3_data nsec3)) (λ _. Unit {0}) };
+
+    /// Reads hash algorithm, flags, iterations, salt, the next hash and the types.
+    ///
+    /// # Errors
+    ///
+    /// `InsufficientBytes` where an octet is needed past the data, `UnknownNsec3HashAlgorithm`, `UnrecognizedNsec3Flags`,
+    /// `BitmapMalformed`, or `OutOfMemory`.
+    #[tactic(auto, using(dns_grammar::proofs::RowReaderLaws::reads_plain_row))]
+    fn read_data(
+        alloc: Global,
+        decoder: &mut BinDecoder<'r>,
+        length: u16,
+    ) -> Result<NSEC3, DecodeError> {
+        NSEC3::read_fields(alloc, decoder, length)
     }
 }
 

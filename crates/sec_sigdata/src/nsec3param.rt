@@ -2,6 +2,7 @@
 ghost use Rattle.std.specs.Prelude.{◌≡◌, Some, IfOk};
 ghost use Rattle.dns_wire.specs.Reading.{octets, place, ReadsUnless};
 ghost use Rattle.dns_grammar.specs.Fields.{fields_octets};
+ghost use Rattle.dns_grammar.specs.RowReaders.{ReadsRow};
 ghost use Rattle.dns_grammar.specs.RecordData.{one_type_data_at};
 ghost use Rattle.sec_sigdata.specs.SignatureRows.{nsec3param_row};
 ghost use Rattle.sec_sigdata.specs.HashParameters.{opt_out_flags, nsec3param_data, hash_values, hash_text};
@@ -83,10 +84,28 @@ impl NSEC3PARAM {
     {
         Ok(NSEC3PARAM(self.0.try_clone()?))
     }
+
+    /// Reads the fields of the data.
+    #[tactic(auto, unfolding(dns_grammar::specs::RecordData::one_type_data_at, dns_grammar::specs::RecordData::fields_filling))]
+    fn read_fields(
+        alloc: Global,
+        decoder: &mut BinDecoder<'_>,
+        length: u16,
+    ) -> Result<NSEC3PARAM, DecodeError>
+        ensures { ReadsUnless (λ param. hash_values (nsec3param_data param)) result decoder.old decoder.new
+            (one_type_data_at nsec3param_row (octets decoder.old) (place decoder.old) length) }
+    {
+        let end = data_end(decoder, length)?;
+        let mut reader = *decoder;
+        let parameters = HashParameters::read_within(alloc, &mut reader, end)?;
+        expect_end(&reader, decoder.index(), end)?;
+        *decoder = reader;
+        Ok(NSEC3PARAM(parameters))
+    }
 }
 
 impl<'r> RecordDataDecodable<'r> for NSEC3PARAM {
-    ghost is_read = { λ len old new result. ReadsUnless (λ param. hash_values (nsec3param_data param)) result old new (one_type_data_at nsec3param_row (octets old) (place old) len) };
+    ghost is_read = { ReadsRow nsec3param_row (λ param. hash_values (nsec3param_data param)) (λ _. Unit {0}) };
 
     /// Reads hash algorithm, flags, iterations and salt.
     ///
@@ -94,18 +113,13 @@ impl<'r> RecordDataDecodable<'r> for NSEC3PARAM {
     ///
     /// `InsufficientBytes` where an octet is needed past the data, `UnknownNsec3HashAlgorithm`, `UnrecognizedNsec3Flags`,
     /// `IncorrectRDataLengthRead` where octets are left over, or `OutOfMemory`.
-    #[tactic(auto, unfolding(dns_grammar::specs::RecordData::one_type_data_at, dns_grammar::specs::RecordData::fields_filling))]
+    #[tactic(auto, using(dns_grammar::proofs::RowReaderLaws::reads_plain_row))]
     fn read_data(
         alloc: Global,
         decoder: &mut BinDecoder<'r>,
         length: u16,
     ) -> Result<NSEC3PARAM, DecodeError> {
-        let end = data_end(decoder, length)?;
-        let mut reader = *decoder;
-        let parameters = HashParameters::read_within(alloc, &mut reader, end)?;
-        expect_end(&reader, decoder.index(), end)?;
-        *decoder = reader;
-        Ok(NSEC3PARAM(parameters))
+        NSEC3PARAM::read_fields(alloc, decoder, length)
     }
 }
 

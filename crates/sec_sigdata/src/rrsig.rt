@@ -1,8 +1,9 @@
 //! RRSIG records: signatures of record sets (RFC 4034 3).
 ghost use Rattle.std.specs.Prelude.{◌≡◌, Some, IfOk};
 ghost use Rattle.dns_grammar.specs.Fields.{fields_octets};
+ghost use Rattle.dns_grammar.specs.RowReaders.{ReadsRow};
 ghost use Rattle.sec_sigdata.specs.SignatureRows.{sig_row};
-ghost use Rattle.sec_sigdata.specs.Signatures.{sig_data, rrsig_data, sig_values, sig_text, sig_is_read};
+ghost use Rattle.sec_sigdata.specs.Signatures.{sig_data, rrsig_data, sig_values, sig_text, SigIsByNumber};
 
 use crate::sig::SIG;
 use crate::sig_input::SigInput;
@@ -48,7 +49,7 @@ impl Deref for RRSIG {
 }
 
 impl<'r> RecordDataDecodable<'r> for RRSIG {
-    ghost is_read = { sig_is_read rrsig_data };
+    ghost is_read = { ReadsRow sig_row (λ rrsig. sig_values (rrsig_data rrsig)) (λ rrsig. SigIsByNumber (rrsig_data rrsig)) };
 
     /// Reads the fields of a SIG, with its errors.
     fn read_data(
@@ -56,7 +57,7 @@ impl<'r> RecordDataDecodable<'r> for RRSIG {
         decoder: &mut BinDecoder<'r>,
         length: u16,
     ) -> Result<RRSIG, DecodeError> {
-        Ok(RRSIG(SIG::read_data(alloc, decoder, length)?))
+        Ok(RRSIG(SIG::read_fields(alloc, decoder, length)?))
     }
 }
 

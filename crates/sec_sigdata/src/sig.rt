@@ -1,8 +1,11 @@
 //! SIG records: signatures of messages (RFC 2931), and of record sets in the older form (RFC 2535 4).
 ghost use Rattle.std.specs.Prelude.{◌≡◌, Some, IfOk};
+ghost use Rattle.dns_wire.specs.Reading.{octets, place, ReadsUnless};
 ghost use Rattle.dns_grammar.specs.Fields.{fields_octets};
+ghost use Rattle.dns_grammar.specs.RecordData.{one_type_data_at};
+ghost use Rattle.dns_grammar.specs.RowReaders.{ReadsRow};
 ghost use Rattle.sec_sigdata.specs.SignatureRows.{sig_row};
-ghost use Rattle.sec_sigdata.specs.Signatures.{sig_data, sig_values, sig_text, sig_is_read};
+ghost use Rattle.sec_sigdata.specs.Signatures.{sig_data, sig_values, sig_text, SigIsByNumber};
 
 use crate::sig_input::{KindText, SigInput, TimesText};
 use dns_grammar::{FieldOut, data_end, emit_fields};
@@ -62,22 +65,18 @@ impl SIG {
             sig,
         })
     }
-}
 
-impl<'r> RecordDataDecodable<'r> for SIG {
-    ghost is_read = { sig_is_read sig_data };
-
-    /// Reads type covered, algorithm, labels, original TTL, expiration, inception, key tag, signer's name and signature.
-    ///
-    /// # Errors
-    ///
-    /// `InsufficientBytes` where an octet is needed past the data, `NameMalformed`, or `OutOfMemory`.
+    /// Reads the fields of the data.
     #[tactic(auto, unfolding(dns_grammar::specs::RecordData::one_type_data_at, dns_grammar::specs::RecordData::fields_filling))]
-    fn read_data(
+    pub(crate) fn read_fields(
         alloc: Global,
-        decoder: &mut BinDecoder<'r>,
+        decoder: &mut BinDecoder<'_>,
         length: u16,
-    ) -> Result<SIG, DecodeError> {
+    ) -> Result<SIG, DecodeError>
+        ensures exact { ReadsUnless (λ sig. sig_values (sig_data sig)) result decoder.old decoder.new
+            (one_type_data_at sig_row (octets decoder.old) (place decoder.old) length) }
+        ensures by_number { IfOk result (λ sig. SigIsByNumber (sig_data sig)) }
+    {
         let end = data_end(decoder, length)?;
         let mut reader = *decoder;
         let type_covered = reader.read_u16_within(end)?;
@@ -103,6 +102,24 @@ impl<'r> RecordDataDecodable<'r> for SIG {
             },
             sig,
         })
+    }
+}
+
+impl<'r> RecordDataDecodable<'r> for SIG {
+    ghost is_read = { ReadsRow sig_row (λ sig. sig_values (sig_data sig)) (λ sig. SigIsByNumber (sig_data sig)) };
+
+    /// Reads type covered, algorithm, labels, original TTL, expiration, inception, key tag, signer's name and signature.
+    ///
+    /// # Errors
+    ///
+    /// `InsufficientBytes` where an octet is needed past the data, `NameMalformed`, or `OutOfMemory`.
+    #[tactic(auto, using(dns_grammar::proofs::RowReaderLaws::reads_row))]
+    fn read_data(
+        alloc: Global,
+        decoder: &mut BinDecoder<'r>,
+        length: u16,
+    ) -> Result<SIG, DecodeError> {
+        SIG::read_fields(alloc, decoder, length)
     }
 }
 

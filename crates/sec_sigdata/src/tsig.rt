@@ -1,10 +1,13 @@
 //! TSIG records: the signature of a message (RFC 8945).
 ghost use Rattle.std.specs.Prelude.{◌≡◌, Some, IfOk};
 ghost use Rattle.dns_wire.specs.Writing.{Writes};
+ghost use Rattle.dns_wire.specs.Reading.{octets, place, ReadsUnless};
 ghost use Rattle.dns_grammar.specs.Fields.{fields_octets};
+ghost use Rattle.dns_grammar.specs.RecordData.{one_type_data_at};
+ghost use Rattle.dns_grammar.specs.RowReaders.{ReadsRow};
 ghost use Rattle.dns_grammar.specs.Tables.{tsig_row};
 ghost use Rattle.dns_grammar.specs.Messages.{tsig_values};
-ghost use Rattle.sec_sigdata.specs.TsigRecords.{tsig_data, tsig_fields, borrowed_fields, tsig_is_read, signed_text, error_text, tsig_text, variables_row, variables_values, written_variables};
+ghost use Rattle.sec_sigdata.specs.TsigRecords.{tsig_data, tsig_fields, borrowed_fields, TsigIsByNumber, TsigFits, signed_text, error_text, tsig_text, variables_row, variables_values, written_variables};
 
 use crate::borrowed_tsig::BorrowedTsig;
 use crate::tsig_algorithm::TsigAlgorithm;
@@ -120,6 +123,39 @@ impl TSIG {
         let algorithm = self.algorithm.to_name().to_lowercase();
         emit_variables(encoder, &key_name.to_lowercase(), &algorithm, self)
     }
+
+    /// Reads the fields of the data.
+    #[tactic(auto, unfolding(dns_grammar::specs::RecordData::one_type_data_at))]
+    fn read_fields(
+        alloc: Global,
+        decoder: &mut BinDecoder<'_>,
+        length: u16,
+    ) -> Result<TSIG, DecodeError>
+        ensures exact { ReadsUnless (λ tsig. tsig_values (tsig_data tsig)) result decoder.old decoder.new
+            (one_type_data_at tsig_row (octets decoder.old) (place decoder.old) length) }
+        ensures by_number { IfOk result (λ tsig. TsigIsByNumber (tsig_fields tsig)) }
+        ensures fits { IfOk result (λ tsig. TsigFits (tsig_fields tsig)) }
+    {
+        let end = data_end(decoder, length)?;
+        // A `match`, since the check has no rule for `?` at a value that holds a name and a reference.
+        match BorrowedTsig::read_within(*decoder, end) {
+            Ok(view) => {
+                let mac = Vec::from_slice(alloc, view.mac)?;
+                let other = Vec::from_slice(alloc, view.other)?;
+                decoder.set_index(end);
+                Ok(TSIG {
+                    algorithm: view.algorithm,
+                    time: view.time,
+                    fudge: view.fudge,
+                    mac,
+                    oid: view.oid,
+                    error: view.error,
+                    other,
+                })
+            }
+            Err(fault) => Err(fault),
+        }
+    }
 }
 
 /// Writes the TSIG variables of a record, with its owner and the name of its algorithm in lower case.
@@ -147,7 +183,9 @@ fn emit_variables<'a>(
 }
 
 impl<'r> RecordDataDecodable<'r> for TSIG {
-    ghost is_read = { tsig_is_read };
+    ghost is_read = { λ len old new result.
+        ReadsRow tsig_row (λ tsig. tsig_values (tsig_data tsig)) (λ tsig. TsigIsByNumber (tsig_fields tsig)) len old new result
+        × IfOk result (λ tsig. TsigFits (tsig_fields tsig)) };
 
     /// Reads algorithm name, time, fudge, MAC, original ID, error and other data.
     ///
@@ -156,31 +194,13 @@ impl<'r> RecordDataDecodable<'r> for TSIG {
     /// `InsufficientBytes` where fewer octets are left than `length`, and for a `length` of 0. Then the first field that fails decides:
     /// `InsufficientBytes` where an octet is needed past the data, the faults of `Name::read_within` for the algorithm's name, and
     /// `IncorrectRDataLengthRead` where octets are left over. Or `OutOfMemory`.
-    #[tactic(auto, unfolding(dns_grammar::specs::RecordData::one_type_data_at))]
+    #[tactic(auto, using(dns_grammar::proofs::RowReaderLaws::reads_row))]
     fn read_data(
         alloc: Global,
         decoder: &mut BinDecoder<'r>,
         length: u16,
     ) -> Result<TSIG, DecodeError> {
-        let end = data_end(decoder, length)?;
-        // A `match`, since the check has no rule for `?` at a value that holds a name and a reference.
-        match BorrowedTsig::read_within(*decoder, end) {
-            Ok(view) => {
-                let mac = Vec::from_slice(alloc, view.mac)?;
-                let other = Vec::from_slice(alloc, view.other)?;
-                decoder.set_index(end);
-                Ok(TSIG {
-                    algorithm: view.algorithm,
-                    time: view.time,
-                    fudge: view.fudge,
-                    mac,
-                    oid: view.oid,
-                    error: view.error,
-                    other,
-                })
-            }
-            Err(fault) => Err(fault),
-        }
+        TSIG::read_fields(alloc, decoder, length)
     }
 }
 

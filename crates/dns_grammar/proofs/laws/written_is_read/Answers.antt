@@ -1,6 +1,7 @@
 use Rattle.dns_grammar.proofs.ReadBack.{written_reads}
 use Rattle.dns_grammar.proofs.ReadAgain.{written_row, written_data}
 use Rattle.dns_grammar.proofs.RecordBack.{written_record}
+use Rattle.dns_grammar.proofs.MessageBack.{written_message}
 use Rattle.dns_grammar.proofs.laws.written_is_read.Goals as goal
 
 pub returns-clause-fields : goal.returns-clause-fields
@@ -14,3 +15,6 @@ returns-clause-data c = written_data
 
 pub returns-clause-record : goal.returns-clause-record
 returns-clause-record c = written_record
+
+pub returns-clause-message : goal.returns-clause-message
+returns-clause-message c = written_message
