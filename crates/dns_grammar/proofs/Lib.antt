@@ -14,3 +14,4 @@ pub mod ExtentLaws
 pub mod StartLaws
 pub mod RecordBack
 pub mod RowReaderLaws
+pub mod EqualValues

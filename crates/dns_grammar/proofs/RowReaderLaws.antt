@@ -37,10 +37,10 @@ pub reads_row : {X : Type 0} (fields : List Field) (values : X → List Value) (
     → ReadsUnless values result old new (one_type_data_at fields (octets old) (place old) len) → IfOk result IsByNumber
     → ReadsRow fields values IsByNumber len old new result
 reads_row fields values IsByNumber len old new result read by_number = record {
-    exact = read;
-    found = found_row fields values len old new result read;
-    only = only_row fields values len old new result read;
-    by_number = by_number;
+  exact = read;
+  found = found_row fields values len old new result read;
+  only = only_row fields values len old new result read;
+  by_number = by_number;
 }
 
 -- the same for a row without codes

@@ -18,6 +18,6 @@ pub record ReadsRow {X : Type 0} (fields : List Field) (values : X → List Valu
   pub found : IfOk result (λ x. RowAt fields (octets old) (place old) len (values x) × (place new ≡ place old + len))
   -- what stands there is answered
   pub only : (vs : List Value) → RowAt fields (octets old) (place old) len vs
-    → (result ≡ Err OutOfMemory) ⊎ IsOkAnd result (λ x. values x ≡ vs)
+      → (result ≡ Err OutOfMemory) ⊎ IsOkAnd result (λ x. values x ≡ vs)
   -- no code that has a name of its own is called unknown
   pub by_number : IfOk result IsByNumber

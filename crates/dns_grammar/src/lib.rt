@@ -1,8 +1,8 @@
 //! Record data and messages: what they are, by a table of fields for each type of record.
 #![tactic(auto)]
 
-pub mod laws;
 mod field_out;
+pub mod laws;
 mod span;
 #[cfg(test)]
 mod tests;

@@ -45,7 +45,10 @@ fn refused_fields_leave_nothing(rt: HostRuntime) -> Result<(), Fail> {
         ],
     );
     assert_eq!(rt; salt, Err(EmitError::SaltTooLong));
-    let time = emit_fields(&mut encoder, &[FieldOut::Octets(&long), FieldOut::Time(1 << 48)]);
+    let time = emit_fields(
+        &mut encoder,
+        &[FieldOut::Octets(&long), FieldOut::Time(1 << 48)],
+    );
     assert_eq!(rt; time, Err(EmitError::TimeTooLarge));
     assert_eq!(rt; encoder.as_slice(), [5u8].as_slice());
     Ok(())

@@ -27,7 +27,7 @@ nsec_type = 47
 unfoldable pub types_text : List ℕ → List ℕ
 types_text set = flat_map (λ t. codes " " ++ type_text t) (types set)
 
--- The types are those of a delegation as the zone above sees it, NS without SOA, or of a subtree under another name, DNAME. A record
--- with them must not be taken to deny names below its own (RFC 6840 4.1).
+-- The types are those of a delegation as the zone above sees it, NS without SOA, or of a subtree under another name,
+-- DNAME. A record with them must not be taken to deny names below its own (RFC 6840 4.1).
 abbrev pub is_ancestor_delegation : List ℕ → Bool
 is_ancestor_delegation set = has_type set dname_type || has_type set ns_type && not (has_type set soa_type)
