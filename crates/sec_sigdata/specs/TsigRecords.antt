@@ -8,6 +8,7 @@ use Rattle.dns_wire.specs.declared.error.EmitError.TheVariants.{TimeTooLarge, Ot
 use Rattle.dns_wire.specs.Octets.{two_octets, four_octets, six_octets}
 use Rattle.dns_names.specs.Names.{wire, low}
 use Rattle.dns_names.specs.NameText.{bare_name_text}
+use Rattle.dns_types.specs.ClassNumbers as classes
 use Rattle.dns_grammar.specs.Fields.{Two, Four, Number, Time, Counted, Kept, Value, Num, Str, Named, Field, any}
 use Rattle.dns_grammar.specs.Messages.{TsigData, tsig_values}
 use Rattle.sec_sigdata.specs.declared.tsig.TSIG.{TSIG}
@@ -107,7 +108,7 @@ tsig_text tsig = signed_text tsig ++ codes " " ++ error_text tsig
 
 -- the class ANY, of every TSIG record (RFC 8945 4.2)
 abbrev pub any_class : ℕ
-any_class = 255
+any_class = classes.ANY
 
 -- the time signed and the fudge (RFC 8945 5.3.1)
 unfoldable pub tsig_timers : TsigData → List ℕ

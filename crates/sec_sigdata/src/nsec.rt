@@ -1,6 +1,7 @@
 //! NSEC records: which name is next in a zone, and which types there are at this one (RFC 4034 4).
 ghost use Rattle.std.specs.Prelude.{◌≡◌, ◌++◌, ◌∷◌, [], Some, IfOk};
 ghost use Rattle.dns_wire.specs.Reading.{octets, place, ReadsUnless};
+ghost use Rattle.dns_types.specs.TypeNumbers as numbers;
 ghost use Rattle.dns_types.specs.TypeSets.{form_of, is_one_of, types};
 ghost use Rattle.dns_grammar.specs.Fields.{fields_octets};
 ghost use Rattle.dns_grammar.specs.RowReaders.{ReadsRow};
@@ -60,7 +61,7 @@ impl NSEC {
         ensures { IfOk result (λ nsec. nsec_data nsec
             ≡ record {
               next_domain_name = next_domain_name;
-              types = form_of (is_one_of (types.now ++ specs.nsec_type ∷ specs.rrsig_type ∷ []));
+              types = form_of (is_one_of (types.now ++ numbers.NSEC ∷ numbers.RRSIG ∷ []));
             }) }
     {
         let mut all = Vec::from_slice(alloc, types)?;
