@@ -151,7 +151,8 @@ impl CDNSKEY {
 }
 
 impl<'r> RecordDataDecodable<'r> for CDNSKEY {
-    ghost is_read = { ReadsRow dnskey_row (λ key. cdnskey_values (cdnskey_data key)) (λ key. CdnsKeyIsByNumber (cdnskey_data key)) };
+    ghost is_read = { ReadsRow dnskey_row (λ key. cdnskey_values (cdnskey_data key))
+        (λ key. CdnsKeyIsByNumber (cdnskey_data key)) };
 
     /// Reads flags, protocol, algorithm and key.
     ///

@@ -117,7 +117,8 @@ impl DNSKEY {
 }
 
 impl<'r> RecordDataDecodable<'r> for DNSKEY {
-    ghost is_read = { ReadsRow dnskey_row (λ key. dnskey_values (dnskey_data key)) (λ key. DnsKeyIsByNumber (dnskey_data key)) };
+    ghost is_read = { ReadsRow dnskey_row (λ key. dnskey_values (dnskey_data key))
+        (λ key. DnsKeyIsByNumber (dnskey_data key)) };
 
     /// Reads flags, protocol, algorithm and key.
     ///
