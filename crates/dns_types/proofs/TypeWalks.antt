@@ -6,7 +6,7 @@ use Rattle.std.specs.List.{list_any, range_with_len}
 use Rattle.std.proofs.lemmas.Bool.{and_parts, leb-true, ne_eqb, eqb-true, or_from}
 use Rattle.dns_types.specs.TypeSets.{Block, has_type_bit, first_block, blocks_of, block_has, has_type, ascend_from}
 use Rattle.dns_types.specs.TypeSets.{is_ascending, types, form_of}
-use Rattle.dns_types.specs.TypeWalks.{types_from, CanWalk, HoldsTypes, IsFirstFrom}
+use Rattle.dns_types.specs.TypeWalks.{types_from, IsTypeWalk, HoldsTypes, IsFirstFrom}
 use Rattle.dns_types.proofs.TypeBlocks.{found, passed, has_none, ascends_more}
 use Rattle.dns_types.proofs.TypeBits.{filter_agree_within}
 use Rattle.dns_types.proofs.FormLaws.{form_ascends, form_types}
@@ -107,22 +107,22 @@ from_first octets = refl
 
 -- octets that are walked for a set
 pub record Walks (octets walked : List ℕ) : Type 0 where
-  pub can_walk : CanWalk walked 0
+  pub is_walk : IsTypeWalk walked 0
   pub all : types_from walked 0 ≡ types octets
 
-walks : (octets : List ℕ) → IsTrue (is_ascending octets) → CanWalk octets 0
+walks : (octets : List ℕ) → IsTrue (is_ascending octets) → IsTypeWalk octets 0
 unfolding is_ascending
 walks octets h = record { window = 0; ascends = h; within = omega arith }
 
 pub walks_octets : (octets : List ℕ) → HoldsTypes octets None → Walks octets octets
-walks_octets octets h = record { can_walk = walks octets h.ascends; all = from_first octets }
+walks_octets octets h = record { is_walk = walks octets h.ascends; all = from_first octets }
 
 pub walks_form : (octets form : List ℕ) → HoldsTypes octets (Some form) → Walks octets form
 unfolding types
 walks_form octets form h =
     let is : form ≡ form_of (has_type octets) = h.ascends in
     subst (Walks octets) (sym is) (record {
-      can_walk = walks (form_of (has_type octets))
+      is_walk = walks (form_of (has_type octets))
           (form_ascends (has_type octets));
       all = from_first (form_of (has_type octets)) ∙ form_types (has_type octets);
     })

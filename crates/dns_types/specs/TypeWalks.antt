@@ -14,8 +14,8 @@ pub record HoldsTypes (octets : List ℕ) (ascending : Option (List ℕ)) : Type
 unfoldable pub types_from : List ℕ → ℕ → List ℕ
 types_from octets lowest = filter (has_type octets) (range_with_len lowest (2 ^ 16 - lowest))
 
--- windows are gone through from the left, and a type is at least the lowest
-pub record CanWalk (octets : List ℕ) (lowest : ℕ) : Type 0 where
+-- a walk over types: the windows of the blocks that are left ascend, and the lowest that may come is a type or 2^16
+pub record IsTypeWalk (octets : List ℕ) (lowest : ℕ) : Type 0 where
   pub window : ℕ
   pub ascends : IsTrue (ascend_from window (blocks_of octets))
   pub within : lowest ≤ 2 ^ 16

@@ -226,13 +226,13 @@ pub struct RecordTypeIter<'a> {
 
 impl<'a> Model for RecordTypeIter<'a> {
     ghost use Rattle.std.specs.Prelude.{List, ℕ};
-    ghost use Rattle.dns_types.specs.TypeWalks.{types_from, CanWalk};
+    ghost use Rattle.dns_types.specs.TypeWalks.{types_from, IsTypeWalk};
 
     ghost Value = { List ℕ };
 
     ghost view = { λ s. types_from s.rest.now s.lowest };
 
-    ghost invariant = { λ s. CanWalk s.rest.now s.lowest };
+    ghost invariant = { λ s. IsTypeWalk s.rest.now s.lowest };
 }
 
 impl<'a> Iterator for RecordTypeIter<'a> {

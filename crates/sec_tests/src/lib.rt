@@ -1,2 +1,7 @@
 //! Tests of the crates of DNSSEC and TSIG, by their public names.
 #![tactic(auto)]
+
+#[cfg(test)]
+mod codes;
+#[cfg(test)]
+mod digest;

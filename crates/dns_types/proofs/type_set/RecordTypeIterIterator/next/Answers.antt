@@ -6,7 +6,7 @@ use Rattle.dns_types.proofs.type_set.RecordTypeIterIterator.next.Goals as goal
 
 pub returns-in-Some-type_from-clause-steps : goal.returns-in-Some-type_from-clause-steps
 returns-in-Some-type_from-clause-steps c =
-    let walk = c.loop-block.invariant.can_walk in
+    let walk = c.loop-block.invariant.is_walk in
     sym c.self.view_is ∙ sym c.loop-block.invariant.left
     ∙ yields c.loop-block.self-inside.rest.now c.in-Some.block walk.window c.loop-block.self-inside.lowest
     c.in-Some-type_from.rtype (sym c.in-Some.ensures) walk.ascends (omega arith) c.in-Some-type_from.ensures
@@ -20,9 +20,9 @@ returns-in-Some-type_from-clause-goes c =
 
 pub loop-block-preserved : goal.loop-block-preserved
 loop-block-preserved c =
-    let walk = c.loop-block.invariant.can_walk in
+    let walk = c.loop-block.invariant.is_walk in
     record {
-      can_walk = record {
+      is_walk = record {
         window = c.in-Some.block.0.window + 1;
         ascends = subst (λ (x : List ℕ). IsTrue (ascend_from (c.in-Some.block.0.window + 1) (blocks_of x)))
             (sym c.rest-self-inside.ensures) (walk_on c.loop-block.self-inside.rest.now c.in-Some.block walk.window

@@ -17,7 +17,7 @@ walked c =
     ]
 
 pub invariant_of-result : goal.invariant_of-result
-invariant_of-result c = (walked c).can_walk
+invariant_of-result c = (walked c).is_walk
 
 pub returns-clause-value : goal.returns-clause-value
 returns-clause-value c = (walked c).all ∙ ap types c.self.view_is
