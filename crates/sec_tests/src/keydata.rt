@@ -47,7 +47,10 @@ fn dnskeys_are_read_written_and_printed(rt: HostRuntime) -> Result<(), Fail> {
     assert_eq!(rt; key.public_key().public_bytes(), [1; 32].as_slice());
     assert_eq!(rt; written(alloc, &key)?, octets);
     let text = key.to_string(alloc)?;
-    assert_eq!(rt; text.as_str(), "257 3 15 AQEBAQEBAQEBAQEBAQEBAQEBAQEBAQEBAQEBAQEBAQE=");
+    assert_eq!(rt;
+        text.as_str(),
+        "257 3 15 AQEBAQEBAQEBAQEBAQEBAQEBAQEBAQEBAQEBAQEBAQE="
+    );
     assert_eq!(rt; key.try_clone()?, key);
     Ok(())
 }
@@ -145,7 +148,10 @@ fn cds_of_a_key_is_made_and_printed(rt: HostRuntime) -> Result<(), Fail> {
     assert_eq!(rt; cds.key_tag(), 5151);
     assert_eq!(rt; cds.digest_type(), DigestType::SHA384);
     assert_eq!(rt; cds.digest(), b"\xc0\xde".as_slice());
-    assert_eq!(rt; written(alloc, &cds)?.as_slice(), b"\x14\x1f\x0f\x04\xc0\xde".as_slice());
+    assert_eq!(rt;
+        written(alloc, &cds)?.as_slice(),
+        b"\x14\x1f\x0f\x04\xc0\xde".as_slice()
+    );
     assert_eq!(rt; cds.to_string(alloc)?.as_str(), "5151 15 4 C0DE");
     Ok(())
 }
@@ -154,7 +160,12 @@ fn cds_of_a_key_is_made_and_printed(rt: HostRuntime) -> Result<(), Fail> {
 fn other_keys_are_read_written_and_printed(rt: HostRuntime) -> Result<(), Fail> {
     let alloc = rt.alloc();
     let key: KEY = read(alloc, OTHER_KEY, 5)?;
-    let scope = UpdateScope { zone: false, strong: false, unique: false, general: true };
+    let scope = UpdateScope {
+        zone: false,
+        strong: false,
+        unique: false,
+        general: true,
+    };
     assert_eq!(rt; key.key_trust(), KeyTrust::AuthOrPrivate);
     assert_eq!(rt; key.key_usage(), KeyUsage::Entity);
     assert_eq!(rt; key.signatory(), scope);
@@ -172,7 +183,12 @@ fn other_keys_are_read_written_and_printed(rt: HostRuntime) -> Result<(), Fail> 
 #[test]
 fn other_keys_are_made(rt: HostRuntime) -> Result<(), Fail> {
     let alloc = rt.alloc();
-    let scope = UpdateScope { zone: true, strong: false, unique: true, general: false };
+    let scope = UpdateScope {
+        zone: true,
+        strong: false,
+        unique: true,
+        general: false,
+    };
     let octets = Vec::new(alloc);
     let key = KEY::new(
         KeyTrust::DoNotTrust,
@@ -186,7 +202,10 @@ fn other_keys_are_made(rt: HostRuntime) -> Result<(), Fail> {
     assert_eq!(rt; key.flags(), 0xc10a);
     assert_eq!(rt; key.signatory(), scope);
     assert_eq!(rt; key.key_usage(), KeyUsage::Zone);
-    assert_eq!(rt; written(alloc, &key)?.as_slice(), b"\xc1\x0a\xff\x03".as_slice());
+    assert_eq!(rt;
+        written(alloc, &key)?.as_slice(),
+        b"\xc1\x0a\xff\x03".as_slice()
+    );
     Ok(())
 }
 
@@ -204,18 +223,29 @@ fn uses_have_flags_and_defaults(rt: HostRuntime) {
 fn faulty_data_are_refused(rt: HostRuntime) {
     let alloc = rt.alloc();
     let faults = [
-        (b"\x14\x1f\x0f".as_slice(), DecodeError::InsufficientBytes),
-        (b"\x01\x01\x04", DecodeError::DnsKeyProtocolNot3(4)),
+        (
+            b"\x01\x01\x04".as_slice(),
+            DecodeError::DnsKeyProtocolNot3(4),
+        ),
         (b"\x01\x01\x03", DecodeError::InsufficientBytes),
     ];
     for (octets, fault) in faults {
         assert_eq!(rt; read::<DNSKEY>(alloc, octets, 3), Err(fault));
         assert_eq!(rt; read::<CDNSKEY>(alloc, octets, 3), Err(fault));
-        assert_eq!(rt; read::<DS>(alloc, octets, 3), Err(DecodeError::InsufficientBytes));
-        assert_eq!(rt; read::<CDS>(alloc, octets, 0), Err(DecodeError::InsufficientBytes));
+        assert_eq!(rt;
+            read::<DS>(alloc, octets, 3),
+            Err(DecodeError::InsufficientBytes)
+        );
+        assert_eq!(rt;
+            read::<CDS>(alloc, octets, 0),
+            Err(DecodeError::InsufficientBytes)
+        );
     }
     let reserved = read::<KEY>(alloc, b"\x20\x00\x03\x0f", 4);
     assert_eq!(rt; reserved, Err(DecodeError::KeyFlagsReserved(0x2000)));
     let extended = read::<KEY>(alloc, b"\x10\x00\x03\x0f", 4);
-    assert_eq!(rt; extended, Err(DecodeError::ExtendedKeyFlagsUnsupported(0x1000)));
+    assert_eq!(rt;
+        extended,
+        Err(DecodeError::ExtendedKeyFlagsUnsupported(0x1000))
+    );
 }

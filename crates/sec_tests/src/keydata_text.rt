@@ -16,8 +16,8 @@ mAphXdvxegXd/M5+X7OrzKBaMbCVdFLUUh6DhweJBjEVv5f2wwjM9XzcnOf+EPbtG9DMBmADjFDc2w/r
 const DIGEST: &str = "60485 5 1 2BB183AF5F22588179A53B0A 98631FAD1A292118";
 
 /// SHA-256 of the wire form of `example.`, `0101030f` and 32 octets `01`.
-const SHA256: [u8; 32] =
-    *b"\x8e\xcd\x72\xd7\xf3\x4b\x0c\x3a\xa9\xd0\xe7\x06\x3c\x44\xeb\x4f\xc6\xe3\xb5\x05\xf4\x48\x11\x24\xb1\x75\xcf\x7c\x9e\x9b\xd1\x88";
+const SHA256: [u8; 32] = *b"\x8e\xcd\x72\xd7\xf3\x4b\x0c\x3a\xa9\xd0\xe7\x06\x3c\x44\xeb\x4f\
+    \xc6\xe3\xb5\x05\xf4\x48\x11\x24\xb1\x75\xcf\x7c\x9e\x9b\xd1\x88";
 
 /// A key of Ed25519 of 32 octets 1.
 fn ed25519(alloc: Global) -> Result<PublicKeyBuf, AllocError> {
@@ -79,7 +79,10 @@ fn digests_are_made_of_keys(rt: HostRuntime) -> Result<(), Fail> {
     assert_eq!(rt; ds.digest(), SHA256.as_slice());
     let key = DNSKEY::from_key(alloc, &ed25519(alloc)?)?;
     assert_eq!(rt; ds.covers(&Name::from_ascii("EXAMPLE.")?, &key), Ok(true));
-    assert_eq!(rt; ds.covers(&Name::from_ascii("example.org.")?, &key), Ok(false));
+    assert_eq!(rt;
+        ds.covers(&Name::from_ascii("example.org.")?, &key),
+        Ok(false)
+    );
     let refused = DS::from_key(alloc, &ed25519(alloc)?, &name, DigestType::Unknown(3));
     assert_eq!(rt; refused, Err(KeyDataError::UnknownDigestAlgorithm(3)));
     Ok(())
@@ -110,7 +113,10 @@ fn key_without_zone_flag_is_not_covered(rt: HostRuntime) -> Result<(), Fail> {
     assert_eq!(rt; digest.as_slice(), ds.digest());
     assert_eq!(rt; ds.covers(&name, &key), Ok(false));
     let unknown = DS::from_tokens(alloc, "60229 5 3 01")?;
-    assert_eq!(rt; unknown.covers(&name, &key), Err(KeyDataError::UnknownDigestAlgorithm(3)));
+    assert_eq!(rt;
+        unknown.covers(&name, &key),
+        Err(KeyDataError::UnknownDigestAlgorithm(3))
+    );
     Ok(())
 }
 
@@ -132,7 +138,10 @@ fn words_of_digests_are_read(rt: HostRuntime) -> Result<(), Fail> {
         ("65535 PRIVATEOID 255 F", "65535 254 255 "),
     ];
     for (text, printed) in texts {
-        assert_eq!(rt; DS::from_tokens(alloc, text)?.to_string(alloc)?.as_str(), printed);
+        assert_eq!(rt;
+            DS::from_tokens(alloc, text)?.to_string(alloc)?.as_str(),
+            printed
+        );
     }
     Ok(())
 }
