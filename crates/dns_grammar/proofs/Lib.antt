@@ -16,3 +16,4 @@ pub mod RecordBack
 pub mod RowReaderLaws
 pub mod MessageBack
 pub mod CheckLaws
+pub mod EqualValues

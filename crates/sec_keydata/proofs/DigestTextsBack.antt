@@ -1,5 +1,7 @@
 -- What is printed of a DS is read as the DS.
-use Rattle.std.proofs.Common.{◌≡◌, ◌<◌, ◌≤◌, ◌*◌, ◌/◌, ◌%◌, ◌^◌, ℕ, Bool, true, false, nat_eq, List, [], ◌∷◌, ◌++◌, length, take, Result, Ok, Err, Some, None, refl, sym, ap, ◌∙◌, append_assoc, arith, codes, append-nil, inl, inr}
+use Rattle.std.proofs.Common.{◌≡◌, ◌<◌, ◌≤◌, ◌*◌, ◌/◌, ◌%◌, ◌^◌, ℕ, Bool, true, false, nat_eq, List, [], ◌∷◌, ◌++◌}
+use Rattle.std.proofs.Common.{length, take, Result, Ok, Err, Some, None, refl, sym, ap, ◌∙◌, append_assoc, arith, codes}
+use Rattle.std.proofs.Common.{append-nil, inl, inr}
 use Rattle.std.specs.Char.{is_ascii_digit}
 use Rattle.std.specs.Fmt.{decimal}
 use Rattle.std.specs.List.{AllByRecursion, slice_index}
@@ -22,8 +24,9 @@ use Rattle.sec_keydata.specs.declared.token_error.TokenError.{TokenError}
 use Rattle.sec_keydata.specs.declared.token_error.TokenError.TheVariants.{Missing, BadNumber, BadHex}
 use Rattle.sec_keydata.specs.declared.token_error.TokenField.TheVariants.{Digest}
 use Rattle.sec_keydata.specs.DsData.{DsData, DsIsByNumber, ds_text}
-use Rattle.sec_keydata.specs.Tokens.{number_in, mnemonics, algorithm_named, algorithm_in, hex_octets, ds_in, token_ds}
-use Rattle.sec_keydata.proofs.TextsBack.{at_place, NoBlank, no_blanks, word_before, word_alone, digit_is, decimal_no_blank, decimal_some, number_below-decimal, number_back}
+use Rattle.sec_keydata.specs.Tokens.{number_in, mnemonics, algorithm_beside, algorithm_in, hex_octets, ds_in, token_ds}
+use Rattle.sec_keydata.proofs.TextsBack.{at_place, NoBlank, no_blanks, word_before, word_alone, digit_is}
+use Rattle.sec_keydata.proofs.TextsBack.{decimal_no_blank, decimal_some, number_below-decimal, number_back}
 
 -- the words of a text as a DS is printed
 four_words : (x y z text : List ℕ) → NoBlank x → 0 < length x → NoBlank y → 0 < length y → NoBlank z → 0 < length z
@@ -48,7 +51,7 @@ differs c cs (x ∷ text) is other = elim (cases_Bool (nat_eq c x)) [
 ]
 
 -- no mnemonic begins with a digit
-unnamed_in : (table : List (List ℕ × Algorithm)) (c : ℕ) (cs : List ℕ) → is_ascii_digit c ≡ true → AllByRecursion (λ entry. begins_with_digit entry.0 ≡ false) table → algorithm_named table (c ∷ cs) ≡ None
+unnamed_in : (table : List (List ℕ × Algorithm)) (c : ℕ) (cs : List ℕ) → is_ascii_digit c ≡ true → AllByRecursion (λ entry. begins_with_digit entry.0 ≡ false) table → algorithm_beside table (c ∷ cs) ≡ None
 unnamed_in [] c cs is others = refl
 unnamed_in (entry ∷ table) c cs is others = rw (differs c cs entry.0 is others.0) (unnamed_in table c cs is others.1)
 
@@ -56,14 +59,14 @@ letters : AllByRecursion (λ (entry : List ℕ × Algorithm). begins_with_digit 
 unfolding begins_with_digit
 letters = (refl, (refl, (refl, (refl, (refl, (refl, (refl, (refl, tt))))))))
 
-unnamed : (digits : List ℕ) → 0 < length digits → AllDigits 10 digits → algorithm_named mnemonics digits ≡ None
+unnamed : (digits : List ℕ) → 0 < length digits → AllDigits 10 digits → algorithm_beside mnemonics digits ≡ None
 unnamed [] some all = absurd (omega (arith, some))
 unnamed (c ∷ digits) some all = unnamed_in mnemonics c digits (digit_is c all.0) letters
 
 algorithm_back : (n : ℕ) → n < 2 ^ 8 → algorithm_in (decimal n) ≡ Ok (algorithm_numbered n)
 algorithm_back n few =
     let numeral = decimal_is_IsNumeral n (omega (arith, few)) in
-    let no_name : algorithm_named mnemonics (decimal n) ≡ None = unnamed (decimal n) numeral.0.0 numeral.0.1 in
+    let no_name : algorithm_beside mnemonics (decimal n) ≡ None = unnamed (decimal n) numeral.0.0 numeral.0.1 in
     let value : number_below (2 ^ 8) (decimal n) ≡ Some n = number_below-decimal (2 ^ 8) n few (omega (arith, few)) in
     λ i. ok_or (option_or (no_name i) (option_map algorithm_numbered (value i))) BadNumber
 
@@ -131,3 +134,5 @@ module _ (ds : DsData) (small : ds.key_tag < 2 ^ 16) (few : number ds.algorithm 
       ap ds_in (words_are ∙ ap (λ t. decimal ds.key_tag ∷ decimal (number ds.algorithm) ∷ decimal (digest_number ds.digest_type) ∷ t) (ap (λ o. words (upper_hex o)) empty))
       ∙ ds_without_digest (decimal ds.key_tag) (decimal (number ds.algorithm)) (decimal (digest_number ds.digest_type)) ds.key_tag (number ds.algorithm) (digest_number ds.digest_type)
       tag_back (algorithm_back (number ds.algorithm) few) kind_back
+
+pub ruleset digest_texts_back = (digest_text_back, empty_digest_text_back)

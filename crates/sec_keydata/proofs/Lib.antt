@@ -1,9 +1,9 @@
 mod DigestTextsBack
+mod EqualFields
+mod KeyUseFlags
 mod KnownFlags
 mod SameTags
 mod TagSums
 mod TextsBack
-mod TheirFields
-mod TheirFlags
 mod WrittenDigests
 mod WrittenKeys

@@ -1,12 +1,14 @@
 -- Sums of octets at even and at odd places.
-use Rattle.std.proofs.Common.{◌≡◌, ◌≤◌, ◌<◌, ℕ, zero, suc, Bool, true, false, ◌+◌, ◌*◌, ◌%◌, cond, eqb, List, [], ◌∷◌, ◌++◌, length, take, get_or, Result, Ok, ap, sym, ◌∙◌, add-one, arith}
+use Rattle.std.proofs.Common.{◌≡◌, ◌≤◌, ◌<◌, ℕ, zero, suc, Bool, true, false, ◌+◌, ◌*◌, ◌%◌, cond, eqb, List, [], ◌∷◌}
+use Rattle.std.proofs.Common.{◌++◌, length, take, get_or, Result, Ok, ap, sym, ◌∙◌, add-one, arith}
 use Rattle.std.proofs.lemmas.List.{take_all}
 use Rattle.std.specs.List.{sum}
 use Rattle.std.proofs.lemmas.List.Sums.{sum_by-cons}
 use Rattle.std.specs.Prelude.{nat_lt}
 use Rattle.sec_keydata.specs.declared.key_data_error.KeyDataError.{KeyDataError}
-use Rattle.sec_keydata.specs.DnsKeys.{DnsKeyData}
-use Rattle.sec_keydata.specs.KeyTags.{even_places, odd_places, octet_sum, folded, dnskey_octets, dnskey_tag}
+use Rattle.sec_keydata.specs.declared.dnskey_fields.TheConstants.{LONGEST_KEY}
+use Rattle.sec_keydata.specs.PublicKeyFields.{PublicKeyFields}
+use Rattle.sec_keydata.specs.KeyTags.{even_places, odd_places, octet_sum, tag_of_sum, key_octets, fields_tag}
 
 -- what an octet at a place counts for
 abbrev pub weight : ℕ → ℕ
@@ -60,9 +62,9 @@ sum-append (a ∷ b ∷ front) octets even =
     sum-cons a b (front ++ octets) ∙ rw (sum-cons a b front) (omega (arith, behind))
 
 -- the tag of a key from the sums of the four octets before it and of its own octets
-pub tag_is : (key : DnsKeyData) (head : List ℕ) (tag so_many more : ℕ) → nat_lt 65531 (length key.public_key.octets) ≡ false → length head ≡ 4 → head ++ key.public_key.octets ≡ dnskey_octets key
-    → so_many ≡ octet_sum head → more ≡ octet_sum key.public_key.octets → tag ≡ folded (so_many + more) → Ok tag ≡ dnskey_tag key
+pub tag_is : (key : PublicKeyFields) (head : List ℕ) (tag so_many more : ℕ) → nat_lt LONGEST_KEY (length key.octets) ≡ false → length head ≡ 4 → head ++ key.octets ≡ key_octets key
+    → so_many ≡ octet_sum head → more ≡ octet_sum key.octets → tag ≡ tag_of_sum (so_many + more) → Ok tag ≡ fields_tag key
 tag_is key head tag so_many more short four whole first behind is =
     let even : length head % 2 ≡ 0 = ap (λ n. n % 2) four in
-    let both : so_many + more ≡ octet_sum (dnskey_octets key) = omega (arith, first, behind, sum-append head key.public_key.octets even, ap octet_sum whole) in
-    rw short (ap (λ n. let ok : Result ℕ KeyDataError = Ok n in ok) (is ∙ ap folded both))
+    let both : so_many + more ≡ octet_sum (key_octets key) = omega (arith, first, behind, sum-append head key.octets even, ap octet_sum whole) in
+    rw short (ap (λ n. let ok : Result ℕ KeyDataError = Ok n in ok) (is ∙ ap tag_of_sum both))

@@ -1,5 +1,7 @@
 -- What is printed of a DNSKEY is read as the DNSKEY.
-use Rattle.std.proofs.Common.{◌≡◌, ◌<◌, ◌+◌, ◌*◌, ◌/◌, ◌%◌, ◌^◌, ℕ, zero, suc, Bool, true, false, ◌||◌, List, [], ◌∷◌, ◌++◌, length, get_or, replicate, Result, Ok, Err, Some, refl, sym, ap, subst, ◌∙◌, append_assoc, arith, codes, append-nil, length-append}
+use Rattle.std.proofs.Common.{◌≡◌, ◌<◌, ◌+◌, ◌*◌, ◌/◌, ◌%◌, ◌^◌, ℕ, zero, suc, Bool, true, false, ◌||◌, List, [], ◌∷◌}
+use Rattle.std.proofs.Common.{◌++◌, length, get_or, replicate, Result, Ok, Err, Some, refl, sym, ap, subst, ◌∙◌}
+use Rattle.std.proofs.Common.{append_assoc, arith, codes, append-nil, length-append}
 use Rattle.std.specs.Char.{is_ascii_digit, digit_value}
 use Rattle.std.specs.Fmt.{decimal}
 use Rattle.std.specs.List.{AllByRecursion, list_all, list_any, before_first, after_first, slice_index}
@@ -192,3 +194,5 @@ module _ (key : DnsKeyData) (small : key.flags < 2 ^ 16) (few : number key.publi
       let empty : key.public_key.octets ≡ [] = nil_from_length key.public_key.octets none in
       ap dnskey_in (words_are ∙ ap (λ t. decimal key.flags ∷ codes "3" ∷ decimal (number key.public_key.algorithm) ∷ t) (ap (λ o. words (encode_of standard o)) empty ∙ no_text))
       ∙ dnskey_without_key (decimal key.flags) (decimal (number key.public_key.algorithm)) key.flags (number key.public_key.algorithm) flags_back algorithm_back
+
+pub ruleset key_texts_back = (text_back, keyless_text_back)

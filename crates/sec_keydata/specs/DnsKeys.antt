@@ -1,27 +1,15 @@
 -- The data of DNSKEY records (RFC 4034 2) and of CDNSKEY records (RFC 7344 3.2, RFC 8078 4).
-use Rattle.std.specs.Prelude.{◌≡◌, ℕ, List, [], ◌∷◌, ◌++◌, codes, Option}
-use Rattle.std.specs.Fmt.{decimal}
+use Rattle.std.specs.Prelude.{◌≡◌, ℕ, List, Option}
 use Rattle.std.specs.Option.{option_map}
-use Rattle.base64.specs.Engines.{standard}
-use Rattle.base64.specs.GeneralPurpose.{encode_of}
-use Rattle.dns_grammar.specs.Fields.{Value, Num, Str}
+use Rattle.dns_grammar.specs.Fields.{Value}
 use Rattle.sec_codes.specs.declared.algorithm.Algorithm.{Algorithm}
 use Rattle.sec_codes.specs.Algorithms.{number, algorithm_numbered}
 use Rattle.sec_codes.specs.KeyForms.{Key}
 use Rattle.sec_codes.specs.KeptKeys.{kept_key}
 use Rattle.sec_keydata.specs.declared.dnskey.DNSKEY.{DNSKEY}
 use Rattle.sec_keydata.specs.declared.cdnskey.CDNSKEY.{CDNSKEY}
-use Rattle.sec_keydata.specs.OptionalAlgorithms.{optional_number, optional_algorithm}
-
--- ---- both
-
--- the text: flags, 3, algorithm number, key in base64 (RFC 4034 2.2)
-abbrev pub public_key_text : ℕ → ℕ → List ℕ → List ℕ
-public_key_text flags algorithm octets = decimal flags ++ codes " 3 " ++ decimal algorithm ++ codes " " ++ encode_of standard octets
-
--- the values of the fields: flags, 3, algorithm number, key
-abbrev pub public_key_values : ℕ → ℕ → List ℕ → List Value
-public_key_values flags algorithm octets = Num flags ∷ Num 3 ∷ Num algorithm ∷ Str octets ∷ []
+use Rattle.sec_keydata.specs.OptionalAlgorithms.{optional_algorithm_number, optional_algorithm}
+use Rattle.sec_keydata.specs.PublicKeyFields.{PublicKeyFields, public_key_values, public_key_text}
 
 -- ---- DNSKEY
 
@@ -33,13 +21,19 @@ pub record DnsKeyData : Type 0 where
 abbrev pub dnskey_data : DNSKEY → DnsKeyData
 dnskey_data key = record { flags = key.flags; public_key = kept_key key.public_key }
 
--- the values of its fields
-abbrev pub dnskey_values : DnsKeyData → List Value
-dnskey_values key = public_key_values key.flags (number key.public_key.algorithm) key.public_key.octets
+-- its fields, their values and their text
+abbrev pub dnskey_fields : DnsKeyData → PublicKeyFields
+dnskey_fields key = record {
+  flags = key.flags;
+  algorithm = number key.public_key.algorithm;
+  octets = key.public_key.octets;
+}
 
--- its text
+abbrev pub dnskey_values : DnsKeyData → List Value
+dnskey_values key = public_key_values (dnskey_fields key)
+
 abbrev pub dnskey_text : DnsKeyData → List ℕ
-dnskey_text key = public_key_text key.flags (number key.public_key.algorithm) key.public_key.octets
+dnskey_text key = public_key_text (dnskey_fields key)
 
 -- The algorithm is that of its number: none with a name of its own is called unknown.
 abbrev pub DnsKeyIsByNumber : DnsKeyData → Type 0
@@ -56,17 +50,23 @@ pub record CdnsKeyData : Type 0 where
 abbrev pub cdnskey_data : CDNSKEY → CdnsKeyData
 cdnskey_data key = record { flags = key.flags; algorithm = key.algorithm; octets = key.public_key.items }
 
--- the values of its fields
-abbrev pub cdnskey_values : CdnsKeyData → List Value
-cdnskey_values key = public_key_values key.flags (optional_number key.algorithm) key.octets
+-- its fields, their values and their text
+abbrev pub cdnskey_fields : CdnsKeyData → PublicKeyFields
+cdnskey_fields key = record {
+  flags = key.flags;
+  algorithm = optional_algorithm_number key.algorithm;
+  octets = key.octets;
+}
 
--- its text
+abbrev pub cdnskey_values : CdnsKeyData → List Value
+cdnskey_values key = public_key_values (cdnskey_fields key)
+
 abbrev pub cdnskey_text : CdnsKeyData → List ℕ
-cdnskey_text key = public_key_text key.flags (optional_number key.algorithm) key.octets
+cdnskey_text key = public_key_text (cdnskey_fields key)
 
 -- the algorithm is that of its number, and none for 0
 abbrev pub CdnsKeyIsByNumber : CdnsKeyData → Type 0
-CdnsKeyIsByNumber key = key.algorithm ≡ optional_algorithm (optional_number key.algorithm)
+CdnsKeyIsByNumber key = key.algorithm ≡ optional_algorithm (optional_algorithm_number key.algorithm)
 
 -- the key, and none where the record asks for deletion
 abbrev pub key_unless_delete : CdnsKeyData → Option Key

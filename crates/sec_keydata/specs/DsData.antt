@@ -1,13 +1,8 @@
 -- The data of DS and CDS records (RFC 4034 5.1, 5.3; RFC 7344 3.1; RFC 8078 4).
-use Rattle.std.specs.Prelude.{◌≡◌, ℕ, List, [], ◌∷◌, ◌++◌, codes, Option, Result, IfOk}
+use Rattle.std.specs.Prelude.{◌≡◌, ℕ, List, [], ◌∷◌, ◌++◌, codes, Option}
 use Rattle.std.specs.Fmt.{decimal}
-use Rattle.sec_keydata.specs.OptionalAlgorithms.{optional_number, optional_algorithm}
+use Rattle.sec_keydata.specs.OptionalAlgorithms.{optional_algorithm_number, optional_algorithm}
 use Rattle.dns_text.specs.HexText.{upper_hex}
-use Rattle.dns_wire.specs.declared.error.DecodeError.{DecodeError}
-use Rattle.dns_wire.specs.declared.decoder.BinDecoder.{BinDecoder}
-use Rattle.dns_wire.specs.Reading.{octets, place, ReadsUnless}
-use Rattle.dns_grammar.specs.RecordData.{one_type_data_at}
-use Rattle.sec_keydata.specs.KeyRows.{ds_row}
 use Rattle.dns_grammar.specs.Fields.{Value, Num, Str}
 use Rattle.sec_codes.specs.declared.algorithm.Algorithm.{Algorithm}
 use Rattle.sec_codes.specs.Algorithms.{number, algorithm_numbered}
@@ -25,7 +20,8 @@ digest_values tag algorithm kind digest = Num tag ∷ Num algorithm ∷ Num kind
 
 -- the numbers in decimal digits, and the digest in upper-case hexadecimal
 abbrev pub digest_text : ℕ → ℕ → ℕ → List ℕ → List ℕ
-digest_text tag algorithm kind digest = decimal tag ++ codes " " ++ decimal algorithm ++ codes " " ++ decimal kind ++ codes " " ++ upper_hex digest
+digest_text tag algorithm kind digest =
+    decimal tag ++ codes " " ++ decimal algorithm ++ codes " " ++ decimal kind ++ codes " " ++ upper_hex digest
 
 abbrev pub fields_values : DigestFields → List Value
 fields_values fields = digest_values fields.key_tag fields.algorithm fields.digest_type fields.digest.now
@@ -43,7 +39,12 @@ pub record DsData : Type 0 where
   pub digest : List ℕ
 
 abbrev pub ds_data : DS → DsData
-ds_data ds = record { key_tag = ds.key_tag; algorithm = ds.algorithm; digest_type = ds.digest_type; digest = ds.digest }
+ds_data ds = record {
+  key_tag = ds.key_tag;
+  algorithm = ds.algorithm;
+  digest_type = ds.digest_type;
+  digest = ds.digest;
+}
 
 -- the fields of the data
 abbrev pub ds_values : DsData → List Value
@@ -58,10 +59,6 @@ pub record DsIsByNumber (ds : DsData) : Type 0 where
   pub algorithm : ds.algorithm ≡ algorithm_numbered (number ds.algorithm)
   pub digest_type : ds.digest_type ≡ digest_type (digest_number ds.digest_type)
 
--- The answer is what reading the row gives, its values or the first fault, or want of memory.
-abbrev pub ds_is_read : ℕ → BinDecoder → BinDecoder → Result DS DecodeError → Type 0
-ds_is_read len old new result = ReadsUnless (λ ds. ds_values (ds_data ds)) result old new (one_type_data_at ds_row (octets old) (place old) len) × IfOk result (λ ds. DsIsByNumber (ds_data ds))
-
 -- ---- CDS
 
 -- what a CDS record says of a key, or without an algorithm that the DS records are to be deleted (RFC 8078 4)
@@ -72,21 +69,24 @@ pub record CdsData : Type 0 where
   pub digest : List ℕ
 
 abbrev pub cds_data : CDS → CdsData
-cds_data cds = record { key_tag = cds.key_tag; algorithm = cds.algorithm; digest_type = cds.digest_type; digest = cds.digest }
+cds_data cds = record {
+  key_tag = cds.key_tag;
+  algorithm = cds.algorithm;
+  digest_type = cds.digest_type;
+  digest = cds.digest;
+}
 
 -- the fields of the data
 abbrev pub cds_values : CdsData → List Value
-cds_values cds = digest_values cds.key_tag (optional_number cds.algorithm) (digest_number cds.digest_type) cds.digest
+cds_values cds =
+    digest_values cds.key_tag (optional_algorithm_number cds.algorithm) (digest_number cds.digest_type) cds.digest
 
 -- the text of the data
 abbrev pub cds_text : CdsData → List ℕ
-cds_text cds = digest_text cds.key_tag (optional_number cds.algorithm) (digest_number cds.digest_type) cds.digest
+cds_text cds =
+    digest_text cds.key_tag (optional_algorithm_number cds.algorithm) (digest_number cds.digest_type) cds.digest
 
 -- the algorithm and the digest type are those of their numbers
 pub record CdsIsByNumber (cds : CdsData) : Type 0 where
-  pub algorithm : cds.algorithm ≡ optional_algorithm (optional_number cds.algorithm)
+  pub algorithm : cds.algorithm ≡ optional_algorithm (optional_algorithm_number cds.algorithm)
   pub digest_type : cds.digest_type ≡ digest_type (digest_number cds.digest_type)
-
--- The answer is what reading the row gives, its values or the first fault, or want of memory.
-abbrev pub cds_is_read : ℕ → BinDecoder → BinDecoder → Result CDS DecodeError → Type 0
-cds_is_read len old new result = ReadsUnless (λ cds. cds_values (cds_data cds)) result old new (one_type_data_at ds_row (octets old) (place old) len) × IfOk result (λ cds. CdsIsByNumber (cds_data cds))

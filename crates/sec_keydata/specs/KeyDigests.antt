@@ -1,4 +1,4 @@
--- The digests of keys in DS records (RFC 4034 5.1.4), and the records that are made of keys.
+-- The digests of keys, and the records that are made of keys.
 use Rattle.std.specs.Prelude.{ℕ, ◌&&◌, Bool, List, ◌++◌, Result, Ok}
 use Rattle.std.specs.Option.{ok_or}
 use Rattle.std.specs.Result.{result_ok}
@@ -12,15 +12,20 @@ use Rattle.sec_keydata.specs.declared.key_data_error.KeyDataError.{KeyDataError}
 use Rattle.sec_keydata.specs.declared.key_data_error.KeyDataError.TheVariants.{UnknownDigestAlgorithm}
 use Rattle.sec_keydata.specs.DsData.{DsData}
 use Rattle.sec_keydata.specs.DnsKeyFlags.{is_zone_key}
-use Rattle.sec_keydata.specs.DnsKeys.{DnsKeyData}
+use Rattle.sec_keydata.specs.DnsKeys.{DnsKeyData, dnskey_fields}
 use Rattle.sec_keydata.specs.KeyTags.{held_octets, dnskey_tag}
+use Rattle.sec_keydata.specs.PublicKeyFields.{PublicKeyFields}
 
--- The digest of an owner's key: that of the owner's wire form in lower case, and the data. A key whose data no record holds is refused
--- first, and then a digest type that has no hash function.
-abbrev pub ds_digest : List (List ℕ) → DnsKeyData → DigestType → Result (List ℕ) KeyDataError
-ds_digest owner key kind = do
+-- The digest of an owner's DNSKEY with these fields: that of the owner's wire form in lower case, and the data. Data
+-- that no record holds are refused first, and then a digest type that has no hash function.
+abbrev pub fields_digest : List (List ℕ) → PublicKeyFields → DigestType → Result (List ℕ) KeyDataError
+fields_digest owner key kind = do
   octets ← held_octets key
   ok_or (result_ok (digest kind (wire (low owner) ++ octets))) (UnknownDigestAlgorithm (digest_number kind))
+
+-- the digest of an owner's key
+abbrev pub ds_digest : List (List ℕ) → DnsKeyData → DigestType → Result (List ℕ) KeyDataError
+ds_digest owner key kind = fields_digest owner (dnskey_fields key) kind
 
 -- the DNSKEY of a public key: one of a zone, and a secure entry point
 abbrev pub secure_entry_key : Key → DnsKeyData
@@ -33,8 +38,8 @@ ds_of_key owner key kind = do
   octets ← ds_digest owner (secure_entry_key key) kind
   Ok (record { key_tag = tag; algorithm = key.algorithm; digest_type = kind; digest = octets })
 
--- Whether a DS covers an owner's key: the key is one of a zone (RFC 4034 5.2), and its digest is that of the DS. A key without a digest of
--- the type of the DS is refused, whatever its flags are.
+-- Whether a DS covers an owner's key: the key is one of a zone (RFC 4034 5.2), and its digest is that of the DS. A key
+-- without a digest of the type of the DS is refused, whatever its flags are.
 abbrev pub covered : List (List ℕ) → DsData → DnsKeyData → Result Bool KeyDataError
 covered owner ds key = do
   octets ← ds_digest owner key ds.digest_type

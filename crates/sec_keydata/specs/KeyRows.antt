@@ -1,8 +1,10 @@
--- The fields of the records of keys: DNSKEY and DS (RFC 4034 2.1, 5.1), CDNSKEY and CDS (RFC 7344 3.1, 3.2), KEY (RFC 2535 3.1, RFC 3445 4).
+-- The fields of the records of keys: DNSKEY and DS (RFC 4034 2.1, 5.1), CDNSKEY and CDS (RFC 7344 3.1, 3.2), KEY (RFC
+-- 2535 3.1, RFC 3445 4).
 use Rattle.std.specs.Prelude.{List, [], ◌∷◌, Option, Some, None, nat_eq, if◌then◌else◌}
 use Rattle.std.specs.Int.Bits.{bit_and}
 use Rattle.dns_wire.specs.declared.error.DecodeError.{DecodeError}
-use Rattle.dns_wire.specs.declared.error.DecodeError.TheVariants.{DnsKeyProtocolNot3, KeyFlagsReserved, ExtendedKeyFlagsUnsupported}
+use Rattle.dns_wire.specs.declared.error.DecodeError.TheVariants.{DnsKeyProtocolNot3, KeyFlagsReserved}
+use Rattle.dns_wire.specs.declared.error.DecodeError.TheVariants.{ExtendedKeyFlagsUnsupported}
 use Rattle.dns_grammar.specs.Fields.{One, Two, Number, Rest, Value, Num, Field, any}
 
 -- the protocol of a DNSKEY is 3 (RFC 4034 2.1.2)
@@ -13,7 +15,8 @@ protocol_fault _ = None
 -- The flags of a KEY have no reserved bit, and don't say that more flags follow (RFC 2535 3.1.2).
 abbrev pub key_flags_fault : Value → Option DecodeError
 key_flags_fault (Num n) =
-    if nat_eq (bit_and n 0x2cf0) 0 then (if nat_eq (bit_and n 0x1000) 0 then None else Some (ExtendedKeyFlagsUnsupported n))
+    if nat_eq (bit_and n 0x2cf0) 0 then
+    (if nat_eq (bit_and n 0x1000) 0 then None else Some (ExtendedKeyFlagsUnsupported n))
     else Some (KeyFlagsReserved n)
 key_flags_fault _ = None
 

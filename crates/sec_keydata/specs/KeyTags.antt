@@ -1,12 +1,15 @@
 -- Key tags (RFC 4034 appendix B).
-use Rattle.std.specs.Prelude.{false, ℕ, ◌+◌, ◌*◌, ◌/◌, ◌%◌, ◌^◌, List, [], ◌∷◌, length, sum, nat_lt, if◌then◌else◌, Result, Ok, Err}
+use Rattle.std.specs.Prelude.{false, ℕ, ◌+◌, ◌*◌, ◌/◌, ◌%◌, ◌^◌, List, [], ◌∷◌, length, sum, nat_lt, if◌then◌else◌}
+use Rattle.std.specs.Prelude.{Result, Ok, Err}
 use Rattle.std.specs.Result.{result_unwrap_or}
 use Rattle.dns_wire.specs.Reading.{◌>>=◌}
 use Rattle.dns_grammar.specs.Fields.{fields_octets}
-use Rattle.sec_keydata.specs.KeyRows.{dnskey_row}
+use Rattle.sec_keydata.specs.declared.dnskey_fields.TheConstants.{LONGEST_KEY}
 use Rattle.sec_keydata.specs.declared.key_data_error.KeyDataError.{KeyDataError}
 use Rattle.sec_keydata.specs.declared.key_data_error.KeyDataError.TheVariants.{DataTooLong}
-use Rattle.sec_keydata.specs.DnsKeys.{DnsKeyData, dnskey_values}
+use Rattle.sec_keydata.specs.KeyRows.{dnskey_row}
+use Rattle.sec_keydata.specs.PublicKeyFields.{PublicKeyFields, public_key_values}
+use Rattle.sec_keydata.specs.DnsKeys.{DnsKeyData, dnskey_fields}
 
 -- the octets at even places, counted from 0
 abbrev pub even_places : List ℕ → List ℕ
@@ -24,24 +27,28 @@ odd_places (_ ∷ octet ∷ octets) = octet ∷ odd_places octets
 abbrev pub octet_sum : List ℕ → ℕ
 octet_sum octets = 256 * sum (even_places octets) + sum (odd_places octets)
 
--- a sum with what passes sixteen bits added to it, in sixteen bits
-abbrev pub folded : ℕ → ℕ
-folded s = (s + s / 2 ^ 16) % 2 ^ 16
+-- the tag of a sum: what passes sixteen bits is added to it, and the tag is the last sixteen bits
+abbrev pub tag_of_sum : ℕ → ℕ
+tag_of_sum s = (s + s / 2 ^ 16) % 2 ^ 16
 
 -- the tag of data
 abbrev pub key_tag : List ℕ → ℕ
-key_tag octets = folded (octet_sum octets)
+key_tag octets = tag_of_sum (octet_sum octets)
 
 -- the octets of a DNSKEY's data, which can be written whatever they are
-abbrev pub dnskey_octets : DnsKeyData → List ℕ
-dnskey_octets key = result_unwrap_or (fields_octets false dnskey_row (dnskey_values key)) []
+abbrev pub key_octets : PublicKeyFields → List ℕ
+key_octets key = result_unwrap_or (fields_octets false dnskey_row (public_key_values key)) []
 
 -- the same where a record holds them: four octets and the key, 65,535 octets at most (RFC 1035 3.2.1)
-abbrev pub held_octets : DnsKeyData → Result (List ℕ) KeyDataError
-held_octets key = if nat_lt 65531 (length key.public_key.octets) then Err DataTooLong else Ok (dnskey_octets key)
+abbrev pub held_octets : PublicKeyFields → Result (List ℕ) KeyDataError
+held_octets key = if nat_lt LONGEST_KEY (length key.octets) then Err DataTooLong else Ok (key_octets key)
+
+-- the tag of a DNSKEY with these fields
+abbrev pub fields_tag : PublicKeyFields → Result ℕ KeyDataError
+fields_tag key = do
+  octets ← held_octets key
+  Ok (key_tag octets)
 
 -- the tag of a DNSKEY
 abbrev pub dnskey_tag : DnsKeyData → Result ℕ KeyDataError
-dnskey_tag key = do
-  octets ← held_octets key
-  Ok (key_tag octets)
+dnskey_tag key = fields_tag (dnskey_fields key)

@@ -1,5 +1,6 @@
 -- The flags and the protocol of a KEY record (RFC 2535 3.1.2, 3.1.3; RFC 2137 3.1.1).
-use Rattle.std.specs.Prelude.{ℕ, ◌+◌, ◌*◌, ◌^◌, ◌==◌, Bool, List, [], ◌∷◌, if◌then◌else◌}
+use Rattle.std.specs.Prelude.{ℕ, ◌+◌, ◌*◌, ◌^◌, List, [], ◌∷◌, map, unwrap_or}
+use Rattle.dns_wire.specs.Lookup.{lookup}
 use Rattle.sec_keydata.specs.declared.key_uses.KeyTrust.{KeyTrust}
 use Rattle.sec_keydata.specs.declared.key_uses.KeyTrust.TheVariants as trusts
 use Rattle.sec_keydata.specs.declared.key_uses.KeyUsage.{KeyUsage}
@@ -7,6 +8,7 @@ use Rattle.sec_keydata.specs.declared.key_uses.KeyUsage.TheVariants as usages
 use Rattle.sec_keydata.specs.declared.key_uses.UpdateScope.{UpdateScope}
 use Rattle.sec_keydata.specs.declared.protocol.Protocol.{Protocol}
 use Rattle.sec_keydata.specs.declared.protocol.Protocol.TheVariants as protocols
+use Rattle.sec_keydata.specs.Flags.{flag_if}
 
 -- the number in the two highest bits of the flags
 abbrev pub trust_code : KeyTrust → ℕ
@@ -22,13 +24,9 @@ usage_code usages.Zone = 1
 usage_code usages.Entity = 2
 usage_code usages.Reserved = 3
 
--- a number where a bit is set, and else 0
-abbrev pub bit_value : Bool → ℕ → ℕ
-bit_value bit n = if bit then n else 0
-
 -- the number in the four lowest bits of the flags
 abbrev pub scope_bits : UpdateScope → ℕ
-scope_bits scope = bit_value scope.zone 8 + bit_value scope.strong 4 + bit_value scope.unique 2 + bit_value scope.general 1
+scope_bits scope = flag_if 8 scope.zone + flag_if 4 scope.strong + flag_if 2 scope.unique + flag_if 1 scope.general
 
 -- the flags that say these three, and no more
 abbrev pub all_flags : KeyTrust → KeyUsage → UpdateScope → ℕ
@@ -44,15 +42,12 @@ protocol_number protocols.IPSec = 4
 protocol_number protocols.All = 255
 protocol_number (protocols.Other n) = n
 
--- the protocols that have a name
-abbrev pub named_protocols : List Protocol
-named_protocols = protocols.Reserved ∷ protocols.TLS ∷ protocols.Email ∷ protocols.DNSSEC ∷ protocols.IPSec ∷ protocols.All ∷ []
+-- the protocols that have a name of their own
+abbrev pub known_protocols : List Protocol
+known_protocols =
+    protocols.Reserved ∷ protocols.TLS ∷ protocols.Email ∷ protocols.DNSSEC ∷ protocols.IPSec ∷ protocols.All ∷ []
 
--- the first of a list that has a number, and where none has it the other protocol of that number
-abbrev pub numbered_protocol : List Protocol → ℕ → Protocol
-numbered_protocol [] n = protocols.Other n
-numbered_protocol (protocol ∷ rest) n = if protocol_number protocol == n then protocol else numbered_protocol rest n
-
--- the protocol of a number
-abbrev pub protocol_of : ℕ → Protocol
-protocol_of = numbered_protocol named_protocols
+-- the protocol of a number, which is another one where none of these has it
+abbrev pub protocol_numbered : ℕ → Protocol
+protocol_numbered n =
+    unwrap_or (lookup (map (λ protocol. (protocol_number protocol, protocol)) known_protocols) n) (protocols.Other n)

@@ -1,11 +1,12 @@
 pub mod DnsKeyFlags
 pub mod DnsKeys
-pub mod DnskeyFields
 pub mod DsData
+pub mod Flags
 pub mod KeyData
 pub mod KeyDigests
 pub mod KeyRows
 pub mod KeyTags
 pub mod KeyUses
 pub mod OptionalAlgorithms
+pub mod PublicKeyFields
 pub mod Tokens

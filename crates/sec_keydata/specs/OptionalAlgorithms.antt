@@ -4,9 +4,9 @@ use Rattle.sec_codes.specs.declared.algorithm.Algorithm.{Algorithm}
 use Rattle.sec_codes.specs.Algorithms.{number, algorithm_numbered}
 
 -- the number of an algorithm, and 0 for none
-abbrev pub optional_number : Option Algorithm → ℕ
-optional_number None = 0
-optional_number (Some a) = number a
+abbrev pub optional_algorithm_number : Option Algorithm → ℕ
+optional_algorithm_number None = 0
+optional_algorithm_number (Some a) = number a
 
 -- the algorithm of a number, and none for 0
 abbrev pub optional_algorithm : ℕ → Option Algorithm

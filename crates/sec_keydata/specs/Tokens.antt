@@ -1,6 +1,7 @@
--- The texts of DNSKEY and DS records (RFC 4034 2.2, 5.3), as words that are separated by spaces and tabs. A fault is the first in the
--- order in which the fields are read here.
-use Rattle.std.specs.Prelude.{ℕ, ◌*◌, ◌/◌, ◌^◌, List, [], ◌∷◌, length, take, map, nat_eq, if◌then◌else◌, Option, Some, None, Result, Ok, Err}
+-- The texts of DNSKEY and DS records (RFC 4034 2.2, 5.3), as words that are separated by spaces and tabs. A fault is
+-- the first in the order in which the fields are read here.
+use Rattle.std.specs.Prelude.{ℕ, ◌*◌, ◌/◌, ◌^◌, List, [], ◌∷◌, length, take, codes, nat_eq, if◌then◌else◌, Option, Some}
+use Rattle.std.specs.Prelude.{None, Result, Ok, Err}
 use Rattle.std.specs.List.{concat}
 use Rattle.std.specs.Option.{ok_or, option_or, option_map}
 use Rattle.std.specs.Result.{result_ok}
@@ -11,11 +12,12 @@ use Rattle.hex.specs.Hex as hexadecimal
 use Rattle.dns_text.specs.Words.{words, number_below}
 use Rattle.dns_wire.specs.Reading.{◌>>=◌}
 use Rattle.sec_codes.specs.declared.algorithm.Algorithm.{Algorithm}
+use Rattle.sec_codes.specs.declared.algorithm.Algorithm.TheVariants.{RSASHA1, Unknown}
 use Rattle.sec_codes.specs.Algorithms.{algorithm_numbered}
 use Rattle.sec_digest.specs.Digests.{digest_type}
-use Rattle.sec_keydata.specs.declared.mnemonics.TheConstants.{MNEMONICS}
 use Rattle.sec_keydata.specs.declared.token_error.TokenError.{TokenError}
-use Rattle.sec_keydata.specs.declared.token_error.TokenError.TheVariants.{Missing, BadNumber, ProtocolNot3, BadBase64, BadHex}
+use Rattle.sec_keydata.specs.declared.token_error.TokenError.TheVariants.{Missing, BadNumber, ProtocolNot3, BadBase64}
+use Rattle.sec_keydata.specs.declared.token_error.TokenError.TheVariants.{BadHex}
 use Rattle.sec_keydata.specs.declared.token_error.TokenField.{TokenField}
 use Rattle.sec_keydata.specs.declared.token_error.TokenField.TheVariants as fields
 use Rattle.sec_keydata.specs.DsData.{DsData}
@@ -47,22 +49,37 @@ base64_octets text = do
   octets ← ok_or (result_ok (decode_of standard text)) BadBase64
   if bytes_eq (encode_of standard octets) text then Ok octets else Err BadBase64
 
--- the octets that the pairs of a text write in hexadecimal digits of either case; a single octet left at the end is dropped
+-- the octets that the pairs of a text write in hexadecimal digits of either case; a single octet left at the end is
+-- dropped
 abbrev pub hex_octets : List ℕ → Result (List ℕ) TokenError
 hex_octets text = ok_or (result_ok (hexadecimal.decode_of (take (length text / 2 * 2) text))) BadHex
 
--- the table of mnemonics: their octets and the algorithms
+-- The mnemonics of algorithms (RFC 4034 appendix A.1) and the algorithms that they are read as: RSASHA1, and the others
+-- as unknown ones of their numbers.
 abbrev pub mnemonics : List (List ℕ × Algorithm)
-mnemonics = map (λ entry. (entry.0.now, entry.1)) MNEMONICS
+mnemonics =
+    (codes "RSAMD5", Unknown 1)
+    ∷ (codes "DH", Unknown 2)
+    ∷ (codes "DSA", Unknown 3)
+    ∷ (codes "ECC", Unknown 4)
+    ∷ (codes "RSASHA1", RSASHA1)
+    ∷ (codes "INDIRECT", Unknown 252)
+    ∷ (codes "PRIVATEDNS", Unknown 253)
+    ∷ (codes "PRIVATEOID", Unknown 254)
+    ∷ []
 
 -- the algorithm beside a word in a table
-abbrev pub algorithm_named : List (List ℕ × Algorithm) → List ℕ → Option Algorithm
-algorithm_named [] word = None
-algorithm_named (entry ∷ table) word = if bytes_eq word entry.0 then Some entry.1 else algorithm_named table word
+abbrev pub algorithm_beside : List (List ℕ × Algorithm) → List ℕ → Option Algorithm
+algorithm_beside [] word = None
+algorithm_beside (entry ∷ table) word = if bytes_eq word entry.0 then Some entry.1 else algorithm_beside table word
+
+-- the algorithm whose number below 256 a word writes
+abbrev pub algorithm_by_number : List ℕ → Option Algorithm
+algorithm_by_number word = option_map algorithm_numbered (number_below (2 ^ 8) word)
 
 -- the algorithm that a word names by its mnemonic, or by its number
 abbrev pub algorithm_in : List ℕ → Result Algorithm TokenError
-algorithm_in word = ok_or (option_or (algorithm_named mnemonics word) (option_map algorithm_numbered (number_below (2 ^ 8) word))) BadNumber
+algorithm_in word = ok_or (option_or (algorithm_beside mnemonics word) (algorithm_by_number word)) BadNumber
 
 -- ---- records
 
@@ -78,7 +95,10 @@ dnskey_in all = do
   algorithm_number ← number_in (2 ^ 8) algorithm.0
   text ← joined_words fields.PublicKey algorithm.1
   octets ← base64_octets text
-  Ok (record { flags = flags_number; public_key = record { octets = octets; algorithm = algorithm_numbered algorithm_number } })
+  Ok (record {
+    flags = flags_number;
+    public_key = record { octets = octets; algorithm = algorithm_numbered algorithm_number };
+  })
 
 -- the DNSKEY of a text
 abbrev pub token_dnskey : List ℕ → Result DnsKeyData TokenError

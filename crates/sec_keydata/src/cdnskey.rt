@@ -1,18 +1,18 @@
 //! CDNSKEY records.
 ghost use Rattle.std.specs.Prelude.{◌≡◌, Some, IfOk};
 ghost use Rattle.std.specs.Option.{is_none, option_map};
-ghost use Rattle.dns_wire.specs.Reading.{octets, place, ReadsUnless};
 ghost use Rattle.dns_grammar.specs.Fields.{fields_octets};
-ghost use Rattle.dns_grammar.specs.RecordData.{one_type_data_at};
+ghost use Rattle.dns_grammar.specs.RowReaders.{ReadsRow};
 ghost use Rattle.sec_keydata.specs.KeyRows.{dnskey_row};
 ghost use Rattle.sec_codes.specs.KeptKeys.{kept_key};
 ghost use Rattle.sec_keydata.specs.DnsKeyFlags as specs;
-ghost use Rattle.sec_keydata.specs.DnsKeys.{cdnskey_data, cdnskey_values, cdnskey_text, CdnsKeyIsByNumber, key_unless_delete};
+ghost use Rattle.sec_keydata.specs.DnsKeys.{cdnskey_data, cdnskey_fields, cdnskey_values, cdnskey_text};
+ghost use Rattle.sec_keydata.specs.DnsKeys.{CdnsKeyIsByNumber, key_unless_delete};
+ghost use Rattle.sec_keydata.specs.PublicKeyFields.{lent_fields};
 
+use crate::dnskey_fields::DnskeyFields;
 use crate::dnskey_flags::{flags_of, is_revoked, is_secure_entry_point, is_zone_key};
-use crate::optional_algorithm::{optional_algorithm, optional_number};
-use dns_grammar::{FieldOut, data_end, emit_fields};
-use dns_text::Base64Text;
+use crate::optional_algorithm::{optional_algorithm, optional_algorithm_number};
 use dns_wire::{
     BinDecoder, BinEncodable, BinEncoder, DecodeError, EmitError, OutOfMemory, RecordDataDecodable,
 };
@@ -20,8 +20,8 @@ use sec_codes::{Algorithm, PublicKeyBuf};
 use std::alloc::Global;
 use std::fmt;
 
-/// A public key that a child zone asks its parent to take, or the wish that all be deleted (RFC 7344 3.2, RFC 8078 4). A contract sees
-/// the flags, the algorithm and the octets of the key, by `cdnskey_data`.
+/// A public key that a child zone asks its parent to take, or the wish that all be deleted (RFC 7344 3.2, RFC 8078 4).
+/// A contract sees the flags, the algorithm and the octets of the key, by `cdnskey_data`.
 #[derive(Debug, PartialEq, Eq, Hash, Drop)]
 pub struct CDNSKEY {
     flags: u16,
@@ -38,7 +38,12 @@ impl CDNSKEY {
         algorithm: Option<Algorithm>,
         public_key: Vec<u8>,
     ) -> CDNSKEY
-        ensures { cdnskey_data result ≡ record { flags = specs.flags_of zone_key secure_entry_point revoke; algorithm = algorithm; octets = public_key.items } }
+        ensures { cdnskey_data result
+            ≡ record {
+              flags = specs.flags_of zone_key secure_entry_point revoke;
+              algorithm = algorithm;
+              octets = public_key.items;
+            } }
     {
         let flags = flags_of(zone_key, secure_entry_point, revoke);
         CDNSKEY::with_flags(flags, algorithm, public_key)
@@ -46,7 +51,8 @@ impl CDNSKEY {
 
     /// A key with these flags, all sixteen bits of them. With no algorithm it asks for deletion.
     pub fn with_flags(flags: u16, algorithm: Option<Algorithm>, public_key: Vec<u8>) -> CDNSKEY
-        ensures { cdnskey_data result ≡ record { flags = flags; algorithm = algorithm; octets = public_key.items } }
+        ensures { cdnskey_data result
+            ≡ record { flags = flags; algorithm = algorithm; octets = public_key.items } }
     {
         CDNSKEY {
             flags,
@@ -94,7 +100,7 @@ impl CDNSKEY {
     ///
     /// # Errors
     ///
-    /// Want of memory.
+    /// Out of memory.
     pub fn public_key(&self) -> Result<Option<PublicKeyBuf>, OutOfMemory>
         ensures { IfOk result (λ key. option_map kept_key key ≡ key_unless_delete (cdnskey_data self.now)) }
     {
@@ -118,7 +124,7 @@ impl CDNSKEY {
     ///
     /// # Errors
     ///
-    /// Want of memory.
+    /// Out of memory.
     pub fn try_clone(&self) -> Result<CDNSKEY, OutOfMemory>
         ensures { IfOk result (λ copy. cdnskey_data copy ≡ cdnskey_data self.now) }
     {
@@ -131,35 +137,40 @@ impl CDNSKEY {
             Err(_) => Err(OutOfMemory),
         }
     }
+
+    /// The fields of the data.
+    fn fields(&self) -> DnskeyFields<'_>
+        ensures { lent_fields result ≡ cdnskey_fields (cdnskey_data self.now) }
+    {
+        DnskeyFields {
+            flags: self.flags,
+            algorithm: optional_algorithm_number(self.algorithm),
+            public_key: self.public_key.as_slice(),
+        }
+    }
 }
 
 impl<'r> RecordDataDecodable<'r> for CDNSKEY {
-    ghost is_read = { λ len old new result. ReadsUnless (λ key. cdnskey_values (cdnskey_data key)) result old new (one_type_data_at dnskey_row (octets old) (place old) len) × IfOk result (λ key. CdnsKeyIsByNumber (cdnskey_data key)) };
+    ghost is_read = { ReadsRow dnskey_row (λ key. cdnskey_values (cdnskey_data key))
+        (λ key. CdnsKeyIsByNumber (cdnskey_data key)) };
 
     /// Reads flags, protocol, algorithm and key.
     ///
     /// # Errors
     ///
     /// `InsufficientBytes` where an octet is needed past the data, `DnsKeyProtocolNot3`, or `OutOfMemory`.
-    #[tactic(auto, unfolding(dns_grammar::specs::RecordData::one_type_data_at, dns_grammar::specs::RecordData::fields_filling))]
     fn read_data(
         alloc: Global,
         decoder: &mut BinDecoder<'r>,
         length: u16,
     ) -> Result<CDNSKEY, DecodeError> {
-        let end = data_end(decoder, length)?;
         let mut reader = *decoder;
-        let flags = reader.read_u16_within(end)?;
-        let protocol = reader.read_u8_within(end)?;
-        if protocol != 3 {
-            return Err(DecodeError::DnsKeyProtocolNot3(protocol));
-        }
-        let algorithm = optional_algorithm(reader.read_u8_within(end)?);
-        let public_key = Vec::from_slice(alloc, reader.read_rest_within(end))?;
+        let fields = DnskeyFields::read_data(&mut reader, length)?;
+        let public_key = Vec::from_slice(alloc, fields.public_key)?;
         *decoder = reader;
         Ok(CDNSKEY {
-            flags,
-            algorithm,
+            flags: fields.flags,
+            algorithm: optional_algorithm(fields.algorithm),
             public_key,
         })
     }
@@ -169,15 +180,7 @@ impl BinEncodable for CDNSKEY {
     ghost written = { λ canonical _ key. fields_octets canonical dnskey_row (cdnskey_values (cdnskey_data key)) };
 
     fn emit(&self, encoder: &mut BinEncoder) -> Result<(), EmitError> {
-        emit_fields(
-            encoder,
-            &[
-                FieldOut::U16(self.flags),
-                FieldOut::U8(3),
-                FieldOut::U8(optional_number(self.algorithm)),
-                FieldOut::Octets(self.public_key.as_slice()),
-            ],
-        )
+        self.fields().emit(encoder)
     }
 }
 
@@ -186,12 +189,6 @@ impl fmt::Display for CDNSKEY {
     ghost output = { λ key. Some (cdnskey_text (cdnskey_data key)) };
 
     fn fmt<W: fmt::Write>(&self, f: &mut fmt::Formatter<W>) -> fmt::Result {
-        write!(
-            f,
-            "{} 3 {} {}",
-            self.flags,
-            optional_number(self.algorithm),
-            Base64Text(self.public_key.as_slice())
-        )
+        write!(f, "{}", self.fields())
     }
 }

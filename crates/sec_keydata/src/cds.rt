@@ -1,12 +1,12 @@
 //! CDS records: the DS records that a zone wants (RFC 7344 3.1, RFC 8078 4).
 ghost use Rattle.std.specs.Prelude.{◌≡◌, ◌↔◌, Some, None, IfOk, IsTrue};
 ghost use Rattle.dns_grammar.specs.Fields.{fields_octets};
+ghost use Rattle.dns_grammar.specs.RowReaders.{ReadsRow};
 ghost use Rattle.sec_keydata.specs.KeyRows.{ds_row};
-ghost use Rattle.sec_keydata.specs.DsData.{cds_data, cds_values, cds_text, fields_values, fields_text, cds_is_read};
+ghost use Rattle.sec_keydata.specs.DsData.{cds_data, cds_values, cds_text, fields_values, fields_text, CdsIsByNumber};
 
 use crate::digest_fields::DigestFields;
-use crate::optional_algorithm::{optional_algorithm, optional_number};
-use dns_grammar::data_end;
+use crate::optional_algorithm::{optional_algorithm, optional_algorithm_number};
 use dns_wire::{
     BinDecoder, BinEncodable, BinEncoder, DecodeError, EmitError, Octets, OutOfMemory,
     RecordDataDecodable,
@@ -26,14 +26,21 @@ pub struct CDS {
 }
 
 impl CDS {
-    /// The digest of a key with this tag and algorithm, and with no algorithm the wish for deletion (RFC 7344 3.1, RFC 8078 4).
+    /// The digest of a key with this tag and algorithm, and with no algorithm the wish for deletion (RFC 7344 3.1, RFC
+    /// 8078 4).
     pub fn new(
         key_tag: u16,
         algorithm: Option<Algorithm>,
         digest_type: DigestType,
         digest: Vec<u8>,
     ) -> CDS
-        ensures { cds_data result ≡ record { key_tag = key_tag; algorithm = algorithm; digest_type = digest_type; digest = digest.items } }
+        ensures { cds_data result
+            ≡ record {
+              key_tag = key_tag;
+              algorithm = algorithm;
+              digest_type = digest_type;
+              digest = digest.items;
+            } }
     {
         CDS {
             key_tag,
@@ -82,7 +89,7 @@ impl CDS {
     ///
     /// # Errors
     ///
-    /// Want of memory.
+    /// Out of memory.
     pub fn try_clone(&self) -> Result<CDS, OutOfMemory>
         ensures { IfOk result (λ copy. copy ≡ self.now) }
     {
@@ -101,7 +108,7 @@ impl CDS {
     {
         DigestFields {
             key_tag: self.key_tag,
-            algorithm: optional_number(self.algorithm),
+            algorithm: optional_algorithm_number(self.algorithm),
             digest_type: self.digest_type.into(),
             digest: self.digest.as_slice(),
         }
@@ -109,23 +116,22 @@ impl CDS {
 }
 
 impl<'r> RecordDataDecodable<'r> for CDS {
-    ghost is_read = { cds_is_read };
+    ghost is_read = { ReadsRow ds_row (λ cds. cds_values (cds_data cds)) (λ cds. CdsIsByNumber (cds_data cds)) };
 
     /// Reads key tag, algorithm, digest type and digest.
     ///
     /// # Errors
     ///
     /// `InsufficientBytes` where an octet is needed past the data, or `OutOfMemory`.
-    #[tactic(auto, unfolding(dns_grammar::specs::RecordData::one_type_data_at))]
     fn read_data(
         alloc: Global,
         decoder: &mut BinDecoder<'r>,
         length: u16,
     ) -> Result<CDS, DecodeError> {
-        let end = data_end(decoder, length)?;
-        let fields = DigestFields::read_within(*decoder, end)?;
+        let mut reader = *decoder;
+        let fields = DigestFields::read_data(&mut reader, length)?;
         let digest = Octets::from_slice(alloc, fields.digest)?;
-        decoder.set_index(end);
+        *decoder = reader;
         Ok(CDS {
             key_tag: fields.key_tag,
             algorithm: optional_algorithm(fields.algorithm),
@@ -143,7 +149,8 @@ impl BinEncodable for CDS {
     }
 }
 
-/// Key tag, algorithm number and 0 for none, digest type number, digest in upper-case hexadecimal (RFC 4034 5.3, RFC 8078 4).
+/// Key tag, algorithm number and 0 for none, digest type number, digest in upper-case hexadecimal (RFC 4034 5.3, RFC
+/// 8078 4).
 impl fmt::Display for CDS {
     ghost output = { λ cds. Some (cds_text (cds_data cds)) };
 
@@ -151,6 +158,3 @@ impl fmt::Display for CDS {
         write!(f, "{}", self.fields())
     }
 }
-
-#[cfg(test)]
-mod tests;

@@ -1,13 +1,13 @@
 //! The fields of DS and CDS data (RFC 4034 5.1, RFC 7344 3.1).
-ghost use Rattle.std.specs.Prelude.{◌≡◌, ◌≤◌, length, Some};
-ghost use Rattle.dns_wire.specs.Reading.{octets, place, Gives};
+ghost use Rattle.std.specs.Prelude.{◌≡◌, Some};
+ghost use Rattle.dns_wire.specs.Reading.{octets, place, Reads};
 ghost use Rattle.dns_wire.specs.Writing.{Writes};
 ghost use Rattle.dns_grammar.specs.Fields.{fields_octets};
-ghost use Rattle.dns_grammar.specs.RecordData.{fields_filling};
+ghost use Rattle.dns_grammar.specs.RecordData.{one_type_data_at};
 ghost use Rattle.sec_keydata.specs.KeyRows.{ds_row};
 ghost use Rattle.sec_keydata.specs.DsData.{fields_values, fields_text};
 
-use dns_grammar::{FieldOut, emit_fields};
+use dns_grammar::{FieldOut, data_end, emit_fields};
 use dns_text::UpperHex;
 use dns_wire::{BinDecoder, BinEncoder, DecodeError, EmitError};
 use std::fmt;
@@ -22,20 +22,22 @@ pub(crate) struct DigestFields<'a> {
 }
 
 impl<'a> DigestFields<'a> {
-    /// Reads the fields of data that end at `end`.
-    #[tactic(auto, unfolding(dns_grammar::specs::RecordData::fields_filling))]
-    pub(crate) fn read_within(
-        mut reader: BinDecoder<'a>,
-        end: usize,
+    /// Reads the fields of data of this length.
+    #[tactic(auto, unfolding(dns_grammar::specs::RecordData::one_type_data_at, dns_grammar::specs::RecordData::fields_filling))]
+    pub(crate) fn read_data(
+        decoder: &mut BinDecoder<'a>,
+        length: u16,
     ) -> Result<DigestFields<'a>, DecodeError>
-        requires ahead { place reader ≤ end }
-        requires inside { end ≤ length (octets reader) }
-        ensures exact { Gives fields_values result (fields_filling ds_row (octets reader.entry) (place reader.entry) end) }
+        ensures { Reads fields_values result decoder.old decoder.new
+            (one_type_data_at ds_row (octets decoder.old) (place decoder.old) length) }
     {
+        let end = data_end(decoder, length)?;
+        let mut reader = *decoder;
         let key_tag = reader.read_u16_within(end)?;
         let algorithm = reader.read_u8_within(end)?;
         let digest_type = reader.read_u8_within(end)?;
         let digest = reader.read_rest_within(end);
+        *decoder = reader;
         Ok(DigestFields {
             key_tag,
             algorithm,
@@ -46,7 +48,8 @@ impl<'a> DigestFields<'a> {
 
     /// Writes the fields.
     pub(crate) fn emit(&self, encoder: &mut BinEncoder) -> Result<(), EmitError>
-        ensures { Writes result encoder.old encoder.new (fields_octets encoder.old.canonical_form ds_row (fields_values self.now)) }
+        ensures { Writes result encoder.old encoder.new
+            (fields_octets encoder.old.canonical_form ds_row (fields_values self.now)) }
     {
         emit_fields(
             encoder,

@@ -1,16 +1,15 @@
 //! DNSKEY records.
 ghost use Rattle.std.specs.Prelude.{◌≡◌, Some, IfOk};
-ghost use Rattle.dns_wire.specs.Reading.{octets, place, ReadsUnless};
 ghost use Rattle.dns_grammar.specs.Fields.{fields_octets};
-ghost use Rattle.dns_grammar.specs.RecordData.{one_type_data_at};
+ghost use Rattle.dns_grammar.specs.RowReaders.{ReadsRow};
 ghost use Rattle.sec_keydata.specs.KeyRows.{dnskey_row};
 ghost use Rattle.sec_codes.specs.KeptKeys.{kept_key};
 ghost use Rattle.sec_keydata.specs.DnsKeyFlags as specs;
-ghost use Rattle.sec_keydata.specs.DnsKeys.{dnskey_data, dnskey_values, dnskey_text, DnsKeyIsByNumber};
+ghost use Rattle.sec_keydata.specs.DnsKeys.{dnskey_data, dnskey_fields, dnskey_values, dnskey_text, DnsKeyIsByNumber};
+ghost use Rattle.sec_keydata.specs.PublicKeyFields.{lent_fields};
 
+use crate::dnskey_fields::DnskeyFields;
 use crate::dnskey_flags::{flags_of, is_revoked, is_secure_entry_point, is_zone_key};
-use dns_grammar::{FieldOut, data_end, emit_fields};
-use dns_text::Base64Text;
 use dns_wire::{
     BinDecoder, BinEncodable, BinEncoder, DecodeError, EmitError, OutOfMemory, RecordDataDecodable,
 };
@@ -33,7 +32,11 @@ impl DNSKEY {
         revoke: bool,
         public_key: PublicKeyBuf,
     ) -> DNSKEY
-        ensures { dnskey_data result ≡ record { flags = specs.flags_of zone_key secure_entry_point revoke; public_key = kept_key public_key } }
+        ensures { dnskey_data result
+            ≡ record {
+              flags = specs.flags_of zone_key secure_entry_point revoke;
+              public_key = kept_key public_key;
+            } }
     {
         DNSKEY::with_flags(flags_of(zone_key, secure_entry_point, revoke), public_key)
     }
@@ -91,7 +94,7 @@ impl DNSKEY {
     ///
     /// # Errors
     ///
-    /// Want of memory.
+    /// Out of memory.
     pub fn try_clone(&self) -> Result<DNSKEY, OutOfMemory>
         ensures { IfOk result (λ copy. dnskey_data copy ≡ dnskey_data self.now) }
     {
@@ -100,36 +103,39 @@ impl DNSKEY {
             public_key: self.public_key.try_clone()?,
         })
     }
+
+    /// The fields of the data.
+    pub(crate) fn fields(&self) -> DnskeyFields<'_>
+        ensures { lent_fields result ≡ dnskey_fields (dnskey_data self.now) }
+    {
+        DnskeyFields {
+            flags: self.flags,
+            algorithm: self.public_key.algorithm().into(),
+            public_key: self.public_key.public_bytes(),
+        }
+    }
 }
 
 impl<'r> RecordDataDecodable<'r> for DNSKEY {
-    ghost is_read = { λ len old new result. ReadsUnless (λ key. dnskey_values (dnskey_data key)) result old new (one_type_data_at dnskey_row (octets old) (place old) len) × IfOk result (λ key. DnsKeyIsByNumber (dnskey_data key)) };
+    ghost is_read = { ReadsRow dnskey_row (λ key. dnskey_values (dnskey_data key))
+        (λ key. DnsKeyIsByNumber (dnskey_data key)) };
 
     /// Reads flags, protocol, algorithm and key.
     ///
     /// # Errors
     ///
     /// `InsufficientBytes` where an octet is needed past the data, `DnsKeyProtocolNot3`, or `OutOfMemory`.
-    #[tactic(auto, unfolding(dns_grammar::specs::RecordData::one_type_data_at, dns_grammar::specs::RecordData::fields_filling))]
     fn read_data(
         alloc: Global,
         decoder: &mut BinDecoder<'r>,
         length: u16,
     ) -> Result<DNSKEY, DecodeError> {
-        let end = data_end(decoder, length)?;
         let mut reader = *decoder;
-        let flags = reader.read_u16_within(end)?;
-        let protocol = reader.read_u8_within(end)?;
-        if protocol != 3 {
-            return Err(DecodeError::DnsKeyProtocolNot3(protocol));
-        }
-        let algorithm = Algorithm::from_u8(reader.read_u8_within(end)?);
-        let key = Vec::from_slice(alloc, reader.read_rest_within(end))?;
+        let fields = DnskeyFields::read_data(&mut reader, length)?;
+        let octets = Vec::from_slice(alloc, fields.public_key)?;
         *decoder = reader;
-        Ok(DNSKEY {
-            flags,
-            public_key: PublicKeyBuf::new(key, algorithm),
-        })
+        let key = PublicKeyBuf::new(octets, Algorithm::from_u8(fields.algorithm));
+        Ok(DNSKEY::with_flags(fields.flags, key))
     }
 }
 
@@ -137,15 +143,7 @@ impl BinEncodable for DNSKEY {
     ghost written = { λ canonical _ key. fields_octets canonical dnskey_row (dnskey_values (dnskey_data key)) };
 
     fn emit(&self, encoder: &mut BinEncoder) -> Result<(), EmitError> {
-        emit_fields(
-            encoder,
-            &[
-                FieldOut::U16(self.flags),
-                FieldOut::U8(3),
-                FieldOut::U8(self.public_key.algorithm().into()),
-                FieldOut::Octets(self.public_key.public_bytes()),
-            ],
-        )
+        self.fields().emit(encoder)
     }
 }
 
@@ -154,12 +152,6 @@ impl fmt::Display for DNSKEY {
     ghost output = { λ key. Some (dnskey_text (dnskey_data key)) };
 
     fn fmt<W: fmt::Write>(&self, f: &mut fmt::Formatter<W>) -> fmt::Result {
-        write!(
-            f,
-            "{} 3 {} {}",
-            self.flags,
-            u8::from(self.public_key.algorithm()),
-            Base64Text(self.public_key.public_bytes())
-        )
+        write!(f, "{}", self.fields())
     }
 }

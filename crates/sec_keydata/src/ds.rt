@@ -1,11 +1,11 @@
 //! DS records: the digest of a zone's key, in the zone above it (RFC 4034 5).
 ghost use Rattle.std.specs.Prelude.{◌≡◌, Some, IfOk};
 ghost use Rattle.dns_grammar.specs.Fields.{fields_octets};
+ghost use Rattle.dns_grammar.specs.RowReaders.{ReadsRow};
 ghost use Rattle.sec_keydata.specs.KeyRows.{ds_row};
-ghost use Rattle.sec_keydata.specs.DsData.{ds_data, ds_values, ds_text, fields_values, fields_text, ds_is_read};
+ghost use Rattle.sec_keydata.specs.DsData.{ds_data, ds_values, ds_text, fields_values, fields_text, DsIsByNumber};
 
 use crate::digest_fields::DigestFields;
-use dns_grammar::data_end;
 use dns_wire::{
     BinDecoder, BinEncodable, BinEncoder, DecodeError, EmitError, Octets, OutOfMemory,
     RecordDataDecodable,
@@ -27,7 +27,13 @@ pub struct DS {
 impl DS {
     /// The digest of a key with this tag and algorithm (RFC 4034 5.1).
     pub fn new(key_tag: u16, algorithm: Algorithm, digest_type: DigestType, digest: Vec<u8>) -> DS
-        ensures { ds_data result ≡ record { key_tag = key_tag; algorithm = algorithm; digest_type = digest_type; digest = digest.items } }
+        ensures { ds_data result
+            ≡ record {
+              key_tag = key_tag;
+              algorithm = algorithm;
+              digest_type = digest_type;
+              digest = digest.items;
+            } }
     {
         DS {
             key_tag,
@@ -69,7 +75,7 @@ impl DS {
     ///
     /// # Errors
     ///
-    /// Want of memory.
+    /// Out of memory.
     pub fn try_clone(&self) -> Result<DS, OutOfMemory>
         ensures { IfOk result (λ copy. copy ≡ self.now) }
     {
@@ -96,23 +102,22 @@ impl DS {
 }
 
 impl<'r> RecordDataDecodable<'r> for DS {
-    ghost is_read = { ds_is_read };
+    ghost is_read = { ReadsRow ds_row (λ ds. ds_values (ds_data ds)) (λ ds. DsIsByNumber (ds_data ds)) };
 
     /// Reads key tag, algorithm, digest type and digest.
     ///
     /// # Errors
     ///
     /// `InsufficientBytes` where an octet is needed past the data, or `OutOfMemory`.
-    #[tactic(auto, unfolding(dns_grammar::specs::RecordData::one_type_data_at))]
     fn read_data(
         alloc: Global,
         decoder: &mut BinDecoder<'r>,
         length: u16,
     ) -> Result<DS, DecodeError> {
-        let end = data_end(decoder, length)?;
-        let fields = DigestFields::read_within(*decoder, end)?;
+        let mut reader = *decoder;
+        let fields = DigestFields::read_data(&mut reader, length)?;
         let digest = Octets::from_slice(alloc, fields.digest)?;
-        decoder.set_index(end);
+        *decoder = reader;
         Ok(DS {
             key_tag: fields.key_tag,
             algorithm: Algorithm::from_u8(fields.algorithm),
@@ -138,6 +143,3 @@ impl fmt::Display for DS {
         write!(f, "{}", self.fields())
     }
 }
-
-#[cfg(test)]
-mod tests;

@@ -1,9 +1,12 @@
 //! KEY records: keys of other uses than DNSSEC's (RFC 2535 3, RFC 3445).
 ghost use Rattle.std.specs.Prelude.{◌≡◌, ◌↔◌, ◌/◌, ◌%◌, ◌^◌, Some, IfOk, IsTrue};
+ghost use Rattle.dns_wire.specs.Reading.{octets, place, ReadsUnless};
 ghost use Rattle.dns_grammar.specs.Fields.{Num, no_fault, fields_octets};
+ghost use Rattle.dns_grammar.specs.RecordData.{one_type_data_at};
+ghost use Rattle.dns_grammar.specs.RowReaders.{ReadsRow};
 ghost use Rattle.sec_keydata.specs.KeyRows.{key_flags_fault, key_row};
 ghost use Rattle.sec_keydata.specs.KeyUses.{trust_code, usage_code, scope_bits, all_flags};
-ghost use Rattle.sec_keydata.specs.KeyData.{key_data, key_values, key_text, key_is_read};
+ghost use Rattle.sec_keydata.specs.KeyData.{key_data, key_values, key_text, KeyIsByNumber};
 
 use crate::key_uses::{KeyTrust, KeyUsage, UpdateScope};
 use crate::protocol::Protocol;
@@ -17,14 +20,20 @@ use sec_codes::Algorithm;
 use std::alloc::Global;
 use std::fmt;
 
-/// Whether flags have no reserved bit, and don't say that more flags follow (RFC 2535 3.1.2).
+/// The flags that are reserved (RFC 2535 3.1.2).
+const RESERVED: u16 = 0x2cf0;
+
+/// The flag that says that more flags follow (RFC 2535 3.1.2).
+const EXTENDED: u16 = 0x1000;
+
+/// Whether flags have no reserved one, and don't say that more follow.
 fn check_flags(flags: u16) -> Result<(), DecodeError>
     ensures { result ≡ no_fault (key_flags_fault (Num flags)) }
 {
-    if flags & 0x2cf0 != 0 {
+    if flags & RESERVED != 0 {
         return Err(DecodeError::KeyFlagsReserved(flags));
     }
-    if flags & 0x1000 != 0 {
+    if flags & EXTENDED != 0 {
         return Err(DecodeError::ExtendedKeyFlagsUnsupported(flags));
     }
     Ok(())
@@ -49,7 +58,13 @@ impl KEY {
         algorithm: Algorithm,
         public_key: Vec<u8>,
     ) -> KEY
-        ensures { key_data result ≡ record { flags = all_flags key_trust key_usage signatory; protocol = protocol; algorithm = algorithm; public_key = public_key.items } }
+        ensures { key_data result
+            ≡ record {
+              flags = all_flags key_trust key_usage signatory;
+              protocol = protocol;
+              algorithm = algorithm;
+              public_key = public_key.items;
+            } }
     {
         KEY {
             flags: u16::from(key_trust) + u16::from(key_usage) + u16::from(signatory),
@@ -119,7 +134,7 @@ impl KEY {
     ///
     /// # Errors
     ///
-    /// Want of memory.
+    /// Out of memory.
     pub fn try_clone(&self) -> Result<KEY, OutOfMemory>
         ensures { IfOk result (λ copy. copy ≡ self.now) }
     {
@@ -130,22 +145,18 @@ impl KEY {
             public_key: self.public_key.try_clone()?,
         })
     }
-}
 
-impl<'r> RecordDataDecodable<'r> for KEY {
-    ghost is_read = { key_is_read };
-
-    /// Reads flags, protocol, algorithm and key.
-    ///
-    /// # Errors
-    ///
-    /// `InsufficientBytes` where an octet is needed past the data, `KeyFlagsReserved` or `ExtendedKeyFlagsUnsupported`, or `OutOfMemory`.
+    /// Reads the fields of the data.
     #[tactic(auto, unfolding(dns_grammar::specs::RecordData::one_type_data_at, dns_grammar::specs::RecordData::fields_filling))]
-    fn read_data(
+    fn read_fields(
         alloc: Global,
-        decoder: &mut BinDecoder<'r>,
+        decoder: &mut BinDecoder<'_>,
         length: u16,
-    ) -> Result<KEY, DecodeError> {
+    ) -> Result<KEY, DecodeError>
+        ensures exact { ReadsUnless (λ key. key_values (key_data key)) result decoder.old decoder.new
+            (one_type_data_at key_row (octets decoder.old) (place decoder.old) length) }
+        ensures by_number { IfOk result (λ key. KeyIsByNumber (key_data key)) }
+    {
         let end = data_end(decoder, length)?;
         let mut reader = *decoder;
         let flags = reader.read_u16_within(end)?;
@@ -160,6 +171,25 @@ impl<'r> RecordDataDecodable<'r> for KEY {
             algorithm: Algorithm::from_u8(algorithm),
             public_key,
         })
+    }
+}
+
+impl<'r> RecordDataDecodable<'r> for KEY {
+    ghost is_read = { ReadsRow key_row (λ key. key_values (key_data key)) (λ key. KeyIsByNumber (key_data key)) };
+
+    /// Reads flags, protocol, algorithm and key.
+    ///
+    /// # Errors
+    ///
+    /// `InsufficientBytes` where an octet is needed past the data, `KeyFlagsReserved` or `ExtendedKeyFlagsUnsupported`,
+    /// or `OutOfMemory`.
+    #[tactic(auto, using(dns_grammar::proofs::RowReaderLaws::reads_row))]
+    fn read_data(
+        alloc: Global,
+        decoder: &mut BinDecoder<'r>,
+        length: u16,
+    ) -> Result<KEY, DecodeError> {
+        KEY::read_fields(alloc, decoder, length)
     }
 }
 
@@ -194,6 +224,3 @@ impl fmt::Display for KEY {
         )
     }
 }
-
-#[cfg(test)]
-mod tests;

@@ -21,7 +21,7 @@ impl DNSKEY {
     ///
     /// # Errors
     ///
-    /// Want of memory.
+    /// Out of memory.
     pub fn from_key<P: PublicKey>(alloc: Global, public_key: &P) -> Result<DNSKEY, OutOfMemory>
         ensures { IfOk result (λ key. dnskey_data key ≡ secure_entry_key (P.key public_key.now)) }
     {
@@ -30,16 +30,17 @@ impl DNSKEY {
         Ok(DNSKEY::new(true, true, false, key))
     }
 
-    /// The digest of the key at its owner: of the owner's wire form in lower case, and the data (RFC 4034 5.1.4). Takes no memory.
+    /// The digest of the key at its owner: of the owner's wire form in lower case, and the data (RFC 4034 5.1.4). Takes
+    /// no memory.
     ///
     /// # Errors
     ///
-    /// `DataTooLong` exactly where the key has more than 65,531 octets, and then `UnknownDigestAlgorithm` exactly for a digest type that
-    /// is unknown.
+    /// `DataTooLong` exactly where the key has more than 65,531 octets, and then `UnknownDigestAlgorithm` exactly for a
+    /// digest type that is unknown.
     pub fn to_digest(&self, name: &Name, digest_type: DigestType) -> Result<Digest, KeyDataError>
         ensures { Gives digest_octets result (ds_digest name.now (dnskey_data self.now) digest_type) }
     {
-        DnskeyFields::of(self).digest(name, digest_type)
+        self.fields().digest(name, digest_type)
     }
 }
 
@@ -48,26 +49,28 @@ impl DS {
     ///
     /// # Errors
     ///
-    /// `DataTooLong` exactly where the key has more than 65,531 octets, and then `UnknownDigestAlgorithm` exactly for a digest type that
-    /// is unknown. `OutOfMemory` may come in place of any answer.
+    /// `DataTooLong` exactly where the key has more than 65,531 octets, and then `UnknownDigestAlgorithm` exactly for a
+    /// digest type that is unknown. `OutOfMemory` may come in place of any answer.
     pub fn from_key<P: PublicKey>(
         alloc: Global,
         public_key: &P,
         name: &Name,
         digest_type: DigestType,
     ) -> Result<DS, KeyDataError>
-        ensures { GivesUnless KeyDataError.OutOfMemory ds_data result (ds_of_key name.now (P.key public_key.now) digest_type) }
+        ensures { GivesUnless KeyDataError.OutOfMemory ds_data result
+            (ds_of_key name.now (P.key public_key.now) digest_type) }
     {
         let fields = DnskeyFields::secure_entry(public_key);
         let key_tag = fields.tag()?;
         let digest = fields.digest(name, digest_type)?;
         match Vec::from_slice(alloc, digest.as_slice()) {
-            Ok(octets) => Ok(DS::new(key_tag, fields.algorithm, digest_type, octets)),
+            Ok(octets) => Ok(DS::new(key_tag, public_key.algorithm(), digest_type, octets)),
             Err(_) => Err(KeyDataError::OutOfMemory),
         }
     }
 
-    /// Whether the key at its owner is one of a zone whose digest, of this type, is this one (RFC 4034 5.2). Takes no memory.
+    /// Whether the key at its owner is one of a zone whose digest, of this type, is this one (RFC 4034 5.2). Takes no
+    /// memory.
     ///
     /// # Errors
     ///
@@ -79,6 +82,3 @@ impl DS {
         Ok(key.zone_key() && digest.as_slice() == self.digest())
     }
 }
-
-#[cfg(test)]
-mod tests;

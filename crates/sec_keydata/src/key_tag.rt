@@ -1,15 +1,14 @@
 //! The tags of keys (RFC 4034 appendix B).
 ghost use Rattle.std.specs.Prelude.{◌≡◌, ◌≤◌, ◌<◌, ◌*◌, ◌-◌, ◌^◌, length};
 ghost use Rattle.sec_keydata.specs.DnsKeys.{dnskey_data};
-ghost use Rattle.sec_keydata.specs.KeyTags.{octet_sum, folded, key_tag, dnskey_tag};
+ghost use Rattle.sec_keydata.specs.KeyTags.{octet_sum, tag_of_sum, key_tag, dnskey_tag};
 
 use crate::dnskey::DNSKEY;
-use crate::dnskey_fields::DnskeyFields;
 use crate::key_data_error::KeyDataError;
 
 impl DNSKEY {
-    /// The tag of the key, by which a DS or an RRSIG names it (RFC 4034 appendix B). It is computed in this way for every algorithm.
-    /// Takes no memory.
+    /// The tag of the key, by which a DS or an RRSIG names it (RFC 4034 appendix B). It is computed in this way for
+    /// every algorithm. Takes no memory.
     ///
     /// # Errors
     ///
@@ -17,7 +16,7 @@ impl DNSKEY {
     pub fn calculate_key_tag(&self) -> Result<u16, KeyDataError>
         ensures { result ≡ dnskey_tag (dnskey_data self.now) }
     {
-        DnskeyFields::of(self).tag()
+        self.fields().tag()
     }
 
     /// The tag of a DNSKEY whose data are these octets (RFC 4034 appendix B).
@@ -25,7 +24,7 @@ impl DNSKEY {
         requires { length octets.now < 2 ^ 16 }
         ensures { result ≡ key_tag octets.now }
     {
-        fold(octet_sum(octets))
+        tag_of_sum(octet_sum(octets))
     }
 }
 
@@ -43,10 +42,10 @@ pub(crate) fn octet_sum(octets: &[u8]) -> u32
     sum
 }
 
-/// A sum with what passes sixteen bits added to it, in sixteen bits.
-pub(crate) fn fold(sum: u32) -> u16
+/// The tag of a sum: what passes sixteen bits is added to it, and the tag is the last sixteen bits.
+pub(crate) fn tag_of_sum(sum: u32) -> u16
     requires { sum < 2 ^ 32 - 2 ^ 16 }
-    ensures { result ≡ folded sum }
+    ensures { result ≡ tag_of_sum sum }
 {
     ((sum + (sum >> 16)) % 0x10000) as u16
 }

@@ -17,8 +17,6 @@ pub mod laws;
 mod mnemonics;
 mod optional_algorithm;
 mod protocol;
-#[cfg(test)]
-mod tests;
 mod token_error;
 mod tokens;
 

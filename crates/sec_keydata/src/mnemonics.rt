@@ -1,6 +1,6 @@
 //! The mnemonics of algorithms in the text of a DS.
 ghost use Rattle.std.specs.Prelude.{◌≡◌, map};
-ghost use Rattle.sec_keydata.specs.Tokens.{mnemonics, algorithm_named};
+ghost use Rattle.sec_keydata.specs.Tokens.{mnemonics, algorithm_beside};
 
 use sec_codes::Algorithm;
 
@@ -18,14 +18,14 @@ pub(crate) const MNEMONICS: [(&str, Algorithm); 8] = [
 
 /// The algorithm whose mnemonic a word is.
 pub(crate) fn algorithm_named(word: &[u8]) -> Option<Algorithm>
-    ensures { result ≡ algorithm_named mnemonics word.now }
+    ensures { result ≡ algorithm_beside mnemonics word.now }
 {
     named_in(&MNEMONICS, word)
 }
 
 /// The algorithm beside a word in a table.
 fn named_in(table: &[(&'static str, Algorithm)], word: &[u8]) -> Option<Algorithm>
-    ensures { result ≡ algorithm_named (map (λ entry. (entry.0.now, entry.1)) table.now) word.now }
+    ensures { result ≡ algorithm_beside (map (λ entry. (entry.0.now, entry.1)) table.now) word.now }
 {
     'table: for (mnemonic, algorithm) in table {
         if word == mnemonic.as_bytes() {

@@ -5,8 +5,8 @@ ghost use Rattle.sec_keydata.specs.OptionalAlgorithms as specs;
 use sec_codes::Algorithm;
 
 /// The number of an algorithm, and 0 for none.
-pub(crate) fn optional_number(algorithm: Option<Algorithm>) -> u8
-    ensures { result ≡ specs.optional_number algorithm }
+pub(crate) fn optional_algorithm_number(algorithm: Option<Algorithm>) -> u8
+    ensures { result ≡ specs.optional_algorithm_number algorithm }
 {
     match algorithm {
         Some(algorithm) => algorithm.into(),
@@ -17,7 +17,7 @@ pub(crate) fn optional_number(algorithm: Option<Algorithm>) -> u8
 /// The algorithm of a number, and none for 0.
 pub(crate) fn optional_algorithm(number: u8) -> Option<Algorithm>
     ensures algorithm { result ≡ specs.optional_algorithm number }
-    ensures number { specs.optional_number result ≡ number }
+    ensures number { specs.optional_algorithm_number result ≡ number }
 {
     if number == 0 {
         None

@@ -1,6 +1,6 @@
 //! The protocols of KEY records (RFC 2535 3.1.3).
 ghost use Rattle.std.specs.Prelude.{◌≡◌};
-ghost use Rattle.sec_keydata.specs.KeyUses.{protocol_number, protocol_of};
+ghost use Rattle.sec_keydata.specs.KeyUses.{protocol_number, protocol_numbered};
 
 /// The protocol that a key is for, by its number.
 #[derive(Clone, Copy, Debug, Default, PartialEq, Eq, Hash)]
@@ -23,7 +23,7 @@ pub enum Protocol {
 }
 
 impl From<u8> for Protocol {
-    ghost from_gives = { λ number protocol. protocol ≡ protocol_of number };
+    ghost from_gives = { λ number protocol. protocol ≡ protocol_numbered number };
 
     fn from(number: u8) -> Protocol {
         match number {

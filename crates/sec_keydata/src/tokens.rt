@@ -4,7 +4,8 @@ ghost use Rattle.dns_text.specs.Words.{words};
 ghost use Rattle.dns_wire.specs.Reading.{Gives, GivesUnless};
 ghost use Rattle.sec_keydata.specs.DsData.{ds_data};
 ghost use Rattle.sec_keydata.specs.DnsKeys.{dnskey_data};
-ghost use Rattle.sec_keydata.specs.Tokens.{first_word, joined_words, number_in, base64_octets, hex_octets, algorithm_in, token_dnskey, token_ds};
+ghost use Rattle.sec_keydata.specs.Tokens.{first_word, joined_words, number_in, base64_octets, hex_octets};
+ghost use Rattle.sec_keydata.specs.Tokens.{algorithm_in, token_dnskey, token_ds};
 
 use crate::dnskey::DNSKEY;
 use crate::ds::DS;
@@ -19,14 +20,15 @@ use sec_digest::DigestType;
 use std::alloc::Global;
 
 impl DNSKEY {
-    /// Reads flags, protocol, algorithm number and a key in base64, as a DNSKEY prints them (RFC 4034 2.2). Words are separated by spaces
-    /// and tabs, and the key may stand in several. Numbers may have leading zeros.
+    /// Reads flags, protocol, algorithm number and a key in base64, as a DNSKEY prints them (RFC 4034 2.2). Words are
+    /// separated by spaces and tabs, and the key may stand in several. Numbers may have leading zeros.
     ///
     /// # Errors
     ///
-    /// The first of these: `Missing` for flags, protocol, algorithm; `BadNumber` for the flags, the protocol; `ProtocolNot3`; `BadNumber`
-    /// for the algorithm; `Missing(PublicKey)`; `BadBase64` where the words of the key, joined, are not just what the encoder gives for the
-    /// octets that they decode to. `OutOfMemory` may come in place of any answer.
+    /// The first of these: `Missing` for flags, protocol, algorithm; `BadNumber` for the flags, the protocol;
+    /// `ProtocolNot3`; `BadNumber` for the algorithm; `Missing(PublicKey)`; `BadBase64` where the words of the key,
+    /// joined, are not just what the encoder gives for the octets that they decode to. `OutOfMemory` may come in place
+    /// of any answer.
     pub fn from_tokens(alloc: Global, text: &str) -> Result<DNSKEY, TokenError>
         ensures { GivesUnless TokenError.OutOfMemory dnskey_data result (token_dnskey text.now) }
     {
@@ -45,14 +47,16 @@ impl DNSKEY {
 }
 
 impl DS {
-    /// Reads key tag, algorithm, digest type and a digest in hexadecimal (RFC 4034 5.3). Words are separated by spaces and tabs, and the
-    /// digest may stand in several. Numbers may have leading zeros. The algorithm is a number, or a mnemonic of RFC 4034 appendix A.1 in
-    /// upper case. The octets of the digest's words, joined, are taken in pairs, and a single one left at the end is dropped.
+    /// Reads key tag, algorithm, digest type and a digest in hexadecimal (RFC 4034 5.3). Words are separated by spaces
+    /// and tabs, and the digest may stand in several. Numbers may have leading zeros. The algorithm is a number, or a
+    /// mnemonic of RFC 4034 appendix A.1 in upper case. The octets of the digest's words, joined, are taken in pairs,
+    /// and a single one left at the end is dropped.
     ///
     /// # Errors
     ///
-    /// The first of these: `Missing` for key tag, algorithm, digest type; `BadNumber` for the key tag, the algorithm, the digest type;
-    /// `Missing(Digest)`; `BadHex` where a pair isn't two hexadecimal digits. `OutOfMemory` may come in place of any answer.
+    /// The first of these: `Missing` for key tag, algorithm, digest type; `BadNumber` for the key tag, the algorithm,
+    /// the digest type; `Missing(Digest)`; `BadHex` where a pair isn't two hexadecimal digits. `OutOfMemory` may come
+    /// in place of any answer.
     pub fn from_tokens(alloc: Global, text: &str) -> Result<DS, TokenError>
         ensures { GivesUnless TokenError.OutOfMemory ds_data result (token_ds text.now) }
     {
@@ -142,6 +146,3 @@ fn hex_octets(alloc: Global, text: &[u8]) -> Result<Vec<u8>, TokenError>
         Err(_) => Err(TokenError::BadHex),
     }
 }
-
-#[cfg(test)]
-mod tests;

@@ -1,4 +1,4 @@
-mod TheirFields
+mod EqualFields
 pub mod TsigData
 pub mod TsigNames
 pub mod TsigVariables

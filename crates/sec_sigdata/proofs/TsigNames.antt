@@ -1,5 +1,6 @@
 -- Names of algorithms: a name is told by its wire form, and is that of its algorithm.
-use Rattle.std.proofs.Common.{Some, None, ◌≡◌, ℕ, Bool, true, false, List, [], ◌∷◌, ◌++◌, length, take, drop, refl, sym, ap, ◌∙◌}
+use Rattle.std.proofs.Common.{Some, None, ◌≡◌, ℕ, Bool, true, false, List, [], ◌∷◌, ◌++◌, length, take, drop, refl, sym}
+use Rattle.std.proofs.Common.{ap, ◌∙◌}
 use Rattle.std.specs.Str.{bytes_eq}
 use Rattle.std.proofs.Math.Seq.{take-append_seam, drop-append_seam}
 use Rattle.std.proofs.lemmas.Slice.Eq.{bytes_eq-Decides}
@@ -7,7 +8,8 @@ use Rattle.dns_names.specs.Names.{wire}
 use Rattle.sec_digest.specs.declared.hmac.HmacHash.{HmacHash}
 use Rattle.sec_digest.specs.declared.hmac.HmacHash.TheVariants.{Sha256, Sha384, Sha512}
 use Rattle.sec_sigdata.specs.declared.tsig_algorithm.TsigAlgorithm.{TsigAlgorithm}
-use Rattle.sec_sigdata.specs.TsigAlgorithms.{algorithm_name, algorithm_among, tsig_algorithm_named, algorithm_with, hash_of}
+use Rattle.sec_sigdata.specs.TsigAlgorithms.{algorithm_name, algorithm_among, tsig_algorithm_named, algorithm_with}
+use Rattle.sec_sigdata.specs.TsigAlgorithms.{hash_of}
 
 both_same : {A : Type 0} (x y : A) (xs ys : List A) → x ≡ y → xs ≡ ys → x ∷ xs ≡ y ∷ ys
 both_same x y xs ys p q = cc

@@ -5,7 +5,8 @@ use Rattle.std.proofs.lemmas.List.{append-nil}
 use Rattle.dns_names.specs.Names.{low}
 use Rattle.dns_grammar.specs.Fields.{fields_octets}
 use Rattle.dns_grammar.specs.Messages.{TsigData}
-use Rattle.sec_sigdata.specs.TsigRecords.{error_variables, key_variables, tsig_timers, tsig_variables, variables_row, variables_values, written_variables}
+use Rattle.sec_sigdata.specs.TsigRecords.{error_variables, key_variables, tsig_timers, tsig_variables, variables_row}
+use Rattle.sec_sigdata.specs.TsigRecords.{variables_values, written_variables}
 
 at_bits : (canonical : Bool) (owner : List (List ℕ)) (tsig : TsigData) (time other : Bool) → nat_lt tsig.time (2 ^ 48) ≡ time → nat_lt (length tsig.other) (2 ^ 16) ≡ other
     → fields_octets canonical variables_row (variables_values (low owner) (low tsig.algorithm) tsig) ≡ written_variables owner tsig

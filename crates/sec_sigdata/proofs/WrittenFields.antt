@@ -1,5 +1,6 @@
 -- What is written of data is read back.
-use Rattle.std.proofs.Common.{◌≡◌, ℕ, ◌^◌, ◌<◌, ltb, Bool, true, false, None, List, [], ◌∷◌, ◌++◌, length, append_assoc, append-nil, length-append, Result, Ok, Err, refl, ap, sym, ◌∙◌, arith}
+use Rattle.std.proofs.Common.{◌≡◌, ℕ, ◌^◌, ◌<◌, ltb, Bool, true, false, None, List, [], ◌∷◌, ◌++◌, length, append_assoc}
+use Rattle.std.proofs.Common.{append-nil, length-append, Result, Ok, Err, refl, ap, sym, ◌∙◌, arith}
 use Rattle.std.proofs.lemmas.Bool.{lt-ltb}
 use Rattle.std.specs.Int.{w8, w16, to_be_bytes}
 use Rattle.std.specs.Prelude.{IsTrue}
@@ -10,7 +11,8 @@ use Rattle.dns_types.specs.TypeSets.{is_bitmap}
 use Rattle.sec_digest.specs.declared.nsec3_hash.Nsec3HashAlgorithm.{Nsec3HashAlgorithm}
 use Rattle.sec_digest.specs.declared.nsec3_hash.Nsec3HashAlgorithm.TheVariants.{SHA1}
 use Rattle.dns_grammar.specs.Fields.{Field, Value, Num, Str, One, Rest, any, value_octets, fields_octets, joined}
-use Rattle.sec_sigdata.specs.SignatureRows.{bitmap_fault, hash_algorithm_fault, nsec3_flags_fault, sig_row, nsec_row, nsec3_row, nsec3param_row}
+use Rattle.sec_sigdata.specs.SignatureRows.{bitmap_fault, hash_algorithm_fault, nsec3_flags_fault, sig_row, nsec_row}
+use Rattle.sec_sigdata.specs.SignatureRows.{nsec3_row, nsec3param_row}
 use Rattle.dns_grammar.specs.Laws.{HoldsAll, AreReadBack}
 use Rattle.dns_grammar.proofs.ReadAgain.{written_row}
 use Rattle.dns_grammar.proofs.ReadBack.{with_count}

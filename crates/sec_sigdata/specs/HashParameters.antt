@@ -1,4 +1,5 @@
--- How the names of a zone are hashed, in NSEC3 and NSEC3PARAM records (RFC 5155 3.1, 4.1), and the data of NSEC3PARAM records (RFC 5155 4).
+-- How the names of a zone are hashed, in NSEC3 and NSEC3PARAM records (RFC 5155 3.1, 4.1), and the data of NSEC3PARAM
+-- records (RFC 5155 4).
 use Rattle.std.specs.Prelude.{ℕ, Bool, List, [], ◌∷◌, ◌++◌, codes, if◌then◌else◌}
 use Rattle.std.specs.Fmt.{decimal}
 use Rattle.dns_text.specs.HexText.{upper_hex}
@@ -24,11 +25,17 @@ pub record HashData : Type 0 where
   pub salt : List ℕ
 
 abbrev pub parameters_data : HashParameters → HashData
-parameters_data parameters = record { hash_algorithm = parameters.hash_algorithm; opt_out = parameters.opt_out; iterations = parameters.iterations; salt = parameters.salt }
+parameters_data parameters = record {
+  hash_algorithm = parameters.hash_algorithm;
+  opt_out = parameters.opt_out;
+  iterations = parameters.iterations;
+  salt = parameters.salt;
+}
 
 -- the fields: hash algorithm, flags, iterations, salt
 abbrev pub hash_values : HashData → List Value
-hash_values hash = Num (hash_number hash.hash_algorithm) ∷ Num (opt_out_flags hash.opt_out) ∷ Num hash.iterations ∷ Str hash.salt ∷ []
+hash_values hash =
+    Num (hash_number hash.hash_algorithm) ∷ Num (opt_out_flags hash.opt_out) ∷ Num hash.iterations ∷ Str hash.salt ∷ []
 
 -- a salt in upper-case hexadecimal, and `-` for none (RFC 5155 3.3)
 unfoldable pub salt_text : List ℕ → List ℕ
@@ -38,7 +45,8 @@ salt_text (octet ∷ octets) = upper_hex (octet ∷ octets)
 -- hash number, flags, iterations, salt (RFC 5155 3.3, 4.3)
 unfoldable pub hash_text : HashData → List ℕ
 hash_text hash =
-    decimal (hash_number hash.hash_algorithm) ++ codes " " ++ decimal (opt_out_flags hash.opt_out) ++ codes " " ++ decimal hash.iterations ++ codes " " ++ salt_text hash.salt
+    decimal (hash_number hash.hash_algorithm) ++ codes " " ++ decimal (opt_out_flags hash.opt_out) ++ codes " "
+    ++ decimal hash.iterations ++ codes " " ++ salt_text hash.salt
 
 -- what a contract sees of an NSEC3PARAM
 abbrev pub nsec3param_data : NSEC3PARAM → HashData

@@ -6,15 +6,19 @@ use Rattle.sec_sigdata.specs.declared.nsec3.NSEC3.{NSEC3}
 use Rattle.sec_sigdata.specs.HashParameters.{HashData, parameters_data, hash_values, hash_text}
 use Rattle.sec_sigdata.specs.TypeLists.{types_text}
 
--- what a contract sees of an NSEC3: how names are hashed, the next hash in the zone, and the bitmap of the types at the name that was
--- hashed
+-- what a contract sees of an NSEC3: how names are hashed, the next hash in the zone, and the bitmap of the types at the
+-- name that was hashed
 pub record Nsec3Data : Type 0 where
   pub hash : HashData
   pub next_hashed_owner_name : List ℕ
   pub types : List ℕ
 
 abbrev pub nsec3_data : NSEC3 → Nsec3Data
-nsec3_data nsec3 = record { hash = parameters_data nsec3.parameters; next_hashed_owner_name = nsec3.next_hashed_owner_name; types = nsec3.types }
+nsec3_data nsec3 = record {
+  hash = parameters_data nsec3.parameters;
+  next_hashed_owner_name = nsec3.next_hashed_owner_name;
+  types = nsec3.types;
+}
 
 -- the fields of the data
 abbrev pub nsec3_values : Nsec3Data → List Value

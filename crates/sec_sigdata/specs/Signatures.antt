@@ -1,15 +1,11 @@
 -- The data of SIG records (RFC 2535 4.1, RFC 2931 3) and of RRSIG records (RFC 4034 3).
-use Rattle.std.specs.Prelude.{◌≡◌, ℕ, ◌<◌, ◌^◌, List, [], ◌∷◌, ◌++◌, take, codes, Result, IfOk}
+use Rattle.std.specs.Prelude.{◌≡◌, ℕ, ◌<◌, ◌^◌, List, [], ◌∷◌, ◌++◌, take, codes}
 use Rattle.std.specs.Fmt.{decimal}
 use Rattle.base64.specs.Engines.{standard}
 use Rattle.base64.specs.GeneralPurpose.{encode_of}
-use Rattle.dns_wire.specs.declared.error.DecodeError.{DecodeError}
 use Rattle.dns_names.specs.Names.{IsName}
 use Rattle.dns_names.specs.NameText.{name_text}
 use Rattle.dns_types.specs.Codes.{type_text}
-use Rattle.dns_wire.specs.declared.decoder.BinDecoder.{BinDecoder}
-use Rattle.dns_wire.specs.Reading.{octets, place, ReadsUnless}
-use Rattle.dns_grammar.specs.RecordData.{one_type_data_at}
 use Rattle.sec_sigdata.specs.SignatureRows.{sig_row}
 use Rattle.dns_grammar.specs.Fields.{Field, Value, Num, Str, Named}
 use Rattle.sec_codes.specs.Algorithms.{number, text, algorithm_numbered}
@@ -61,17 +57,20 @@ SigIsByNumber sig = sig.input.algorithm ≡ algorithm_numbered (number sig.input
 
 -- type covered, name of the algorithm, labels
 unfoldable pub kind_text : SigInput → List ℕ
-kind_text input = type_text input.type_covered ++ codes " " ++ text input.algorithm ++ codes " " ++ decimal input.num_labels
+kind_text input =
+    type_text input.type_covered ++ codes " " ++ text input.algorithm ++ codes " " ++ decimal input.num_labels
 
 -- original TTL, expiration, inception, key tag, the times as numbers
 unfoldable pub times_text : SigInput → List ℕ
 times_text input =
-    decimal input.original_ttl ++ codes " " ++ decimal input.sig_expiration.0 ++ codes " " ++ decimal input.sig_inception.0 ++ codes " " ++ decimal input.key_tag
+    decimal input.original_ttl ++ codes " " ++ decimal input.sig_expiration.0 ++ codes " "
+    ++ decimal input.sig_inception.0 ++ codes " " ++ decimal input.key_tag
 
 -- these, the signer's name, and the signature in base64
 abbrev pub sig_text : SigData → List ℕ
 sig_text sig =
-    kind_text sig.input ++ codes " " ++ times_text sig.input ++ codes " " ++ name_text sig.input.signer_name ++ codes " " ++ encode_of standard sig.sig
+    kind_text sig.input ++ codes " " ++ times_text sig.input ++ codes " " ++ name_text sig.input.signer_name
+    ++ codes " " ++ encode_of standard sig.sig
 
 -- ---- laws
 

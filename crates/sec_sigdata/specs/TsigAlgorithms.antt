@@ -1,5 +1,6 @@
 -- The algorithms of TSIG records: their names (RFC 8945 6; IANA, TSIG Algorithm Names), and the MACs that they make.
-use Rattle.std.specs.Prelude.{Bool, ℕ, List, [], ◌∷◌, length, codes, Option, Some, None, is_some, Result, Ok, Err, if◌then◌else◌}
+use Rattle.std.specs.Prelude.{Bool, ℕ, List, [], ◌∷◌, length, codes, Option, Some, None, is_some, Result, Ok, Err}
+use Rattle.std.specs.Prelude.{if◌then◌else◌}
 use Rattle.std.specs.Str.{bytes_eq}
 use Rattle.dns_wire.specs.declared.error.DecodeError.{DecodeError}
 use Rattle.dns_names.specs.Names.{wire}
@@ -11,7 +12,10 @@ use Rattle.sec_digest.specs.Hmac.{hmac}
 use Rattle.sec_sigdata.specs.declared.error.DnsSecError.{DnsSecError}
 use Rattle.sec_sigdata.specs.declared.error.DnsSecError.TheVariants as errors
 use Rattle.sec_sigdata.specs.declared.tsig_algorithm.TsigAlgorithm.{TsigAlgorithm}
-use Rattle.sec_sigdata.specs.declared.tsig_algorithm.TsigAlgorithm.TheVariants.{HmacMd5, Gss, HmacSha1, HmacSha224, HmacSha256, HmacSha256_128, HmacSha384, HmacSha384_192, HmacSha512, HmacSha512_256, Unknown}
+use Rattle.sec_sigdata.specs.declared.tsig_algorithm.TsigAlgorithm.TheVariants.{HmacMd5, Gss, HmacSha1, HmacSha224}
+use Rattle.sec_sigdata.specs.declared.tsig_algorithm.TsigAlgorithm.TheVariants.{HmacSha256, HmacSha256_128, HmacSha384}
+use Rattle.sec_sigdata.specs.declared.tsig_algorithm.TsigAlgorithm.TheVariants.{HmacSha384_192, HmacSha512}
+use Rattle.sec_sigdata.specs.declared.tsig_algorithm.TsigAlgorithm.TheVariants.{HmacSha512_256, Unknown}
 
 -- ---- names
 
@@ -32,12 +36,15 @@ algorithm_name (Unknown n) = n
 -- the algorithms that have a name of their own, those that are supported first
 abbrev pub named_algorithms : List TsigAlgorithm
 named_algorithms =
-    HmacSha256 ∷ HmacSha384 ∷ HmacSha512 ∷ HmacMd5 ∷ Gss ∷ HmacSha1 ∷ HmacSha224 ∷ HmacSha256_128 ∷ HmacSha384_192 ∷ HmacSha512_256 ∷ []
+    HmacSha256 ∷ HmacSha384 ∷ HmacSha512 ∷ HmacMd5 ∷ Gss ∷ HmacSha1 ∷ HmacSha224 ∷ HmacSha256_128 ∷ HmacSha384_192
+    ∷ HmacSha512_256 ∷ []
 
--- The first of a list that has a name, spelled so with the case of its letters, and where none has it the unknown algorithm of that name.
+-- The first of a list that has a name, spelled so with the case of its letters, and where none has it the unknown
+-- algorithm of that name.
 abbrev pub algorithm_among : List TsigAlgorithm → List (List ℕ) → TsigAlgorithm
 algorithm_among [] n = Unknown n
-algorithm_among (algorithm ∷ rest) n = if bytes_eq (wire (algorithm_name algorithm)) (wire n) then algorithm else algorithm_among rest n
+algorithm_among (algorithm ∷ rest) n =
+    if bytes_eq (wire (algorithm_name algorithm)) (wire n) then algorithm else algorithm_among rest n
 
 -- the algorithm of a name
 abbrev pub tsig_algorithm_named : List (List ℕ) → TsigAlgorithm

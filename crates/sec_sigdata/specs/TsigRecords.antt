@@ -1,25 +1,22 @@
 -- The data of TSIG records (RFC 8945 4.2), and what a MAC covers of them (RFC 8945 4.3).
-use Rattle.std.specs.Prelude.{◌≡◌, ℕ, ◌^◌, ◌<◌, List, [], ◌∷◌, ◌++◌, length, codes, Option, Result, Ok, Err, IfOk, nat_lt, if◌then◌else◌}
+use Rattle.std.specs.Prelude.{◌≡◌, ℕ, ◌^◌, ◌<◌, List, [], ◌∷◌, ◌++◌, length, codes, Option, Result, Ok, Err}
+use Rattle.std.specs.Prelude.{nat_lt, if◌then◌else◌}
 use Rattle.std.specs.Fmt.{decimal}
 use Rattle.dns_text.specs.HexText.{lower_hex}
-use Rattle.dns_wire.specs.declared.error.DecodeError.{DecodeError}
 use Rattle.dns_wire.specs.declared.error.EmitError.{EmitError}
 use Rattle.dns_wire.specs.declared.error.EmitError.TheVariants.{TimeTooLarge, OtherTooLong}
 use Rattle.dns_wire.specs.Octets.{two_octets, four_octets, six_octets}
 use Rattle.dns_names.specs.Names.{wire, low}
 use Rattle.dns_names.specs.NameText.{bare_name_text}
-use Rattle.dns_wire.specs.declared.decoder.BinDecoder.{BinDecoder}
-use Rattle.dns_wire.specs.Reading.{octets, place, ReadsUnless}
+use Rattle.dns_types.specs.ClassNumbers as classes
 use Rattle.dns_grammar.specs.Fields.{Two, Four, Number, Time, Counted, Kept, Value, Num, Str, Named, Field, any}
-use Rattle.dns_grammar.specs.RecordData.{one_type_data_at}
-use Rattle.dns_grammar.specs.Tables.{tsig_row}
 use Rattle.dns_grammar.specs.Messages.{TsigData, tsig_values}
 use Rattle.sec_sigdata.specs.declared.tsig.TSIG.{TSIG}
 use Rattle.sec_sigdata.specs.declared.tsig_algorithm.TsigAlgorithm.{TsigAlgorithm}
 use Rattle.sec_sigdata.specs.declared.tsig_error.TsigError.{TsigError}
 use Rattle.sec_sigdata.specs.declared.borrowed_tsig.BorrowedTsig.{BorrowedTsig}
 use Rattle.sec_sigdata.specs.TsigAlgorithms.{algorithm_name, tsig_algorithm_named}
-use Rattle.sec_sigdata.specs.TsigErrors.{optional_number, optional_error}
+use Rattle.sec_sigdata.specs.TsigErrors.{optional_error_number, optional_error}
 
 -- ---- data
 
@@ -34,14 +31,38 @@ pub record TsigFields : Type 0 where
   pub other : List ℕ
 
 abbrev pub tsig_fields : TSIG → TsigFields
-tsig_fields tsig = record { algorithm = tsig.algorithm; time = tsig.time; fudge = tsig.fudge; mac = tsig.mac.items; oid = tsig.oid; error = tsig.error; other = tsig.other.items }
+tsig_fields tsig = record {
+  algorithm = tsig.algorithm;
+  time = tsig.time;
+  fudge = tsig.fudge;
+  mac = tsig.mac.items;
+  oid = tsig.oid;
+  error = tsig.error;
+  other = tsig.other.items;
+}
 
 abbrev pub borrowed_fields : BorrowedTsig → TsigFields
-borrowed_fields tsig = record { algorithm = tsig.algorithm; time = tsig.time; fudge = tsig.fudge; mac = tsig.mac.now; oid = tsig.oid; error = tsig.error; other = tsig.other.now }
+borrowed_fields tsig = record {
+  algorithm = tsig.algorithm;
+  time = tsig.time;
+  fudge = tsig.fudge;
+  mac = tsig.mac.now;
+  oid = tsig.oid;
+  error = tsig.error;
+  other = tsig.other.now;
+}
 
 -- the same with the algorithm's name and the error's number, as the record carries them
 abbrev pub fields_data : TsigFields → TsigData
-fields_data tsig = record { algorithm = algorithm_name tsig.algorithm; time = tsig.time; fudge = tsig.fudge; mac = tsig.mac; oid = tsig.oid; error = optional_number tsig.error; other = tsig.other }
+fields_data tsig = record {
+  algorithm = algorithm_name tsig.algorithm;
+  time = tsig.time;
+  fudge = tsig.fudge;
+  mac = tsig.mac;
+  oid = tsig.oid;
+  error = optional_error_number tsig.error;
+  other = tsig.other;
+}
 
 -- the data of a TSIG, and of one that is borrowed
 abbrev pub tsig_data : TSIG → TsigData
@@ -54,10 +75,11 @@ borrowed_data tsig = fields_data (borrowed_fields tsig)
 abbrev pub borrowed_values : BorrowedTsig → List Value
 borrowed_values tsig = tsig_values (borrowed_data tsig)
 
--- The algorithm and the error are those of their name and number: none with a name of its own is called unknown, and 0 is no error.
+-- The algorithm and the error are those of their name and number: none with a name of its own is called unknown, and 0
+-- is no error.
 pub record TsigIsByNumber (tsig : TsigFields) : Type 0 where
   pub algorithm : tsig.algorithm ≡ tsig_algorithm_named (algorithm_name tsig.algorithm)
-  pub error : tsig.error ≡ optional_error (optional_number tsig.error)
+  pub error : tsig.error ≡ optional_error (optional_error_number tsig.error)
 
 -- the numbers and octets fit the octets that they have in the record
 pub record TsigFits (tsig : TsigFields) : Type 0 where
@@ -69,11 +91,14 @@ pub record TsigFits (tsig : TsigFields) : Type 0 where
 
 -- algorithm, time, fudge and MAC
 unfoldable pub signed_text : TsigFields → List ℕ
-signed_text tsig = bare_name_text (algorithm_name tsig.algorithm) ++ codes " " ++ decimal tsig.time ++ codes " " ++ decimal tsig.fudge ++ codes " " ++ lower_hex tsig.mac
+signed_text tsig =
+    bare_name_text (algorithm_name tsig.algorithm) ++ codes " " ++ decimal tsig.time ++ codes " " ++ decimal tsig.fudge
+    ++ codes " " ++ lower_hex tsig.mac
 
 -- original ID, error number and other data
 unfoldable pub error_text : TsigFields → List ℕ
-error_text tsig = decimal tsig.oid ++ codes " " ++ decimal (optional_number tsig.error) ++ codes " " ++ lower_hex tsig.other
+error_text tsig =
+    decimal tsig.oid ++ codes " " ++ decimal (optional_error_number tsig.error) ++ codes " " ++ lower_hex tsig.other
 
 -- the seven fields, one blank between each two
 abbrev pub tsig_text : TsigFields → List ℕ
@@ -83,7 +108,7 @@ tsig_text tsig = signed_text tsig ++ codes " " ++ error_text tsig
 
 -- the class ANY, of every TSIG record (RFC 8945 4.2)
 abbrev pub any_class : ℕ
-any_class = 255
+any_class = classes.ANY
 
 -- the time signed and the fudge (RFC 8945 5.3.1)
 unfoldable pub tsig_timers : TsigData → List ℕ
@@ -104,7 +129,8 @@ tsig_variables owner tsig = key_variables owner tsig ++ tsig_timers tsig ++ erro
 -- the same, or the first field that can't be written
 abbrev pub written_variables : List (List ℕ) → TsigData → Result (List ℕ) EmitError
 written_variables owner tsig =
-    if nat_lt tsig.time (2 ^ 48) then (if nat_lt (length tsig.other) (2 ^ 16) then Ok (tsig_variables owner tsig) else Err OtherTooLong)
+    if nat_lt tsig.time (2 ^ 48) then
+    (if nat_lt (length tsig.other) (2 ^ 16) then Ok (tsig_variables owner tsig) else Err OtherTooLong)
     else Err TimeTooLarge
 
 -- the TSIG variables as fields, with an owner and an algorithm's name in lower case
@@ -122,4 +148,5 @@ variables_row =
 
 abbrev pub variables_values : List (List ℕ) → List (List ℕ) → TsigData → List Value
 variables_values owner algorithm tsig =
-    Named owner ∷ Num any_class ∷ Num 0 ∷ Named algorithm ∷ Num tsig.time ∷ Num tsig.fudge ∷ Num tsig.error ∷ Str tsig.other ∷ []
+    Named owner ∷ Num any_class ∷ Num 0 ∷ Named algorithm ∷ Num tsig.time ∷ Num tsig.fudge ∷ Num tsig.error
+    ∷ Str tsig.other ∷ []

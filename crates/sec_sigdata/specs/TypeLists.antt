@@ -2,32 +2,14 @@
 use Rattle.std.specs.Prelude.{ℕ, Bool, ◌&&◌, ◌||◌, not, List, ◌++◌, codes}
 use Rattle.std.specs.List.{flat_map}
 use Rattle.dns_types.specs.Codes.{type_text}
+use Rattle.dns_types.specs.TypeNumbers as numbers
 use Rattle.dns_types.specs.TypeSets.{has_type, types}
-
--- ---- types by their numbers (IANA, Resource Record TYPEs)
-
-abbrev pub ns_type : ℕ
-ns_type = 2
-
-abbrev pub soa_type : ℕ
-soa_type = 6
-
-abbrev pub dname_type : ℕ
-dname_type = 39
-
-abbrev pub rrsig_type : ℕ
-rrsig_type = 46
-
-abbrev pub nsec_type : ℕ
-nsec_type = 47
-
--- ---- the sets
 
 -- the types of a set, each behind a space
 unfoldable pub types_text : List ℕ → List ℕ
 types_text set = flat_map (λ t. codes " " ++ type_text t) (types set)
 
--- The types are those of a delegation as the zone above sees it, NS without SOA, or of a subtree under another name, DNAME. A record
--- with them must not be taken to deny names below its own (RFC 6840 4.1).
+-- The types are those of a delegation as the zone above sees it, NS without SOA, or of a subtree under another name,
+-- DNAME. A record with them must not be taken to deny names below its own (RFC 6840 4.1).
 abbrev pub is_ancestor_delegation : List ℕ → Bool
-is_ancestor_delegation set = has_type set dname_type || has_type set ns_type && not (has_type set soa_type)
+is_ancestor_delegation set = has_type set numbers.DNAME || has_type set numbers.NS && not (has_type set numbers.SOA)

@@ -6,10 +6,11 @@ ghost use Rattle.dns_grammar.specs.Fields.{fields_octets};
 ghost use Rattle.dns_grammar.specs.RecordData.{fields_filling};
 ghost use Rattle.dns_grammar.specs.Tables.{tsig_row};
 ghost use Rattle.sec_sigdata.specs.TsigAlgorithms.{algorithm_name};
-ghost use Rattle.sec_sigdata.specs.TsigRecords.{borrowed_data, borrowed_fields, borrowed_values, TsigFits, TsigIsByNumber};
+ghost use Rattle.sec_sigdata.specs.TsigRecords.{borrowed_data, borrowed_fields, borrowed_values, TsigFits};
+ghost use Rattle.sec_sigdata.specs.TsigRecords.{TsigIsByNumber};
 
 use crate::tsig_algorithm::TsigAlgorithm;
-use crate::tsig_error::{TsigError, optional_error, optional_number};
+use crate::tsig_error::{TsigError, optional_error, optional_error_number};
 use dns_grammar::{FieldOut, emit_fields, expect_end};
 use dns_names::Name;
 use dns_wire::{BinDecoder, BinEncoder, DecodeError, EmitError};
@@ -38,8 +39,8 @@ impl<'a> BorrowedTsig<'a> {
     ///
     /// # Errors
     ///
-    /// The first field that fails decides: `InsufficientBytes` where an octet is needed past `end`, the faults of `Name::read_within` for
-    /// the algorithm's name, and `IncorrectRDataLengthRead` where octets are left over.
+    /// The first field that fails decides: `InsufficientBytes` where an octet is needed past `end`, the faults of
+    /// `Name::read_within` for the algorithm's name, and `IncorrectRDataLengthRead` where octets are left over.
     #[tactic(auto, unfolding(dns_grammar::specs::RecordData::fields_filling))]
     pub fn read_within(
         mut reader: BinDecoder<'a>,
@@ -47,7 +48,8 @@ impl<'a> BorrowedTsig<'a> {
     ) -> Result<BorrowedTsig<'a>, DecodeError>
         requires ahead { place reader ≤ end }
         requires inside { end ≤ length (octets reader) }
-        ensures exact { Gives borrowed_values result (fields_filling tsig_row (octets reader.entry) (place reader.entry) end) }
+        ensures exact { Gives borrowed_values result
+            (fields_filling tsig_row (octets reader.entry) (place reader.entry) end) }
         ensures named { IfOk result (λ tsig. TsigIsByNumber (borrowed_fields tsig)) }
         ensures fits { IfOk result (λ tsig. TsigFits (borrowed_fields tsig)) }
     {
@@ -75,17 +77,18 @@ impl<'a> BorrowedTsig<'a> {
     pub fn error_number(&self) -> u16
         ensures { result ≡ (borrowed_data self.now).error }
     {
-        optional_number(self.error)
+        optional_error_number(self.error)
     }
 
     /// Writes the data of a TSIG record. The algorithm's name keeps its letters.
     ///
     /// # Errors
     ///
-    /// `TimeTooLarge` for a time of 2^48 or more, `MacTooLong` and `OtherTooLong` above 65,535 octets, in this order, or `OutOfMemory`. The
-    /// encoder then stays as it was.
+    /// `TimeTooLarge` for a time of 2^48 or more, `MacTooLong` and `OtherTooLong` above 65,535 octets, in this order,
+    /// or `OutOfMemory`. The encoder then stays as it was.
     pub fn emit(&self, encoder: &mut BinEncoder) -> Result<(), EmitError>
-        ensures { Writes result encoder.old encoder.new (fields_octets encoder.old.canonical_form tsig_row (borrowed_values self.now)) }
+        ensures { Writes result encoder.old encoder.new
+            (fields_octets encoder.old.canonical_form tsig_row (borrowed_values self.now)) }
     {
         emit_with_algorithm(encoder, &self.algorithm.to_name(), self)
     }
@@ -98,7 +101,8 @@ fn emit_with_algorithm<'a>(
     tsig: &'a BorrowedTsig<'a>,
 ) -> Result<(), EmitError>
     requires { algorithm.now ≡ algorithm_name tsig.now.algorithm }
-    ensures { Writes result encoder.old encoder.new (fields_octets encoder.old.canonical_form tsig_row (borrowed_values tsig.now)) }
+    ensures { Writes result encoder.old encoder.new
+        (fields_octets encoder.old.canonical_form tsig_row (borrowed_values tsig.now)) }
 {
     emit_fields(
         encoder,

@@ -42,7 +42,7 @@ impl DnsSecError {
     ///
     /// # Errors
     ///
-    /// Want of memory.
+    /// Out of memory.
     pub fn try_clone(&self) -> Result<DnsSecError, OutOfMemory>
         ensures { IfOk result (λ copy. IsCopyOf copy self.now) }
     {
@@ -92,6 +92,3 @@ impl From<AllocError> for DnsSecError {
         DnsSecError::OutOfMemory
     }
 }
-
-#[cfg(test)]
-mod tests;

@@ -3,7 +3,8 @@ ghost use Rattle.std.specs.Prelude.{◌≡◌, ◌≤◌, length, Some, IfOk};
 ghost use Rattle.dns_wire.specs.Reading.{octets, place, Gives, ReadsUnless};
 ghost use Rattle.dns_grammar.specs.Fields.{Num, no_fault, fields_at};
 ghost use Rattle.sec_sigdata.specs.SignatureRows.{nsec3_flags_fault, hash_algorithm_fault, nsec3param_row};
-ghost use Rattle.sec_sigdata.specs.HashParameters.{hash_number, opt_out_flags, parameters_data, hash_values, hash_text, salt_text};
+ghost use Rattle.sec_sigdata.specs.HashParameters.{hash_number, opt_out_flags, parameters_data, hash_values, hash_text};
+ghost use Rattle.sec_sigdata.specs.HashParameters.{salt_text};
 
 use dns_text::UpperHex;
 use dns_wire::{BinDecoder, DecodeError, Octets, OutOfMemory};
@@ -11,7 +12,8 @@ use sec_digest::Nsec3HashAlgorithm;
 use std::alloc::Global;
 use std::fmt;
 
-/// How names are hashed: the algorithm, whether names without signatures may be left out, the rounds behind the first, the salt.
+/// How names are hashed: the algorithm, whether names without signatures may be left out, the rounds behind the first,
+/// the salt.
 #[derive(Debug, PartialEq, Eq, Hash, Drop)]
 pub(crate) struct HashParameters {
     pub(crate) hash_algorithm: Nsec3HashAlgorithm,
@@ -36,7 +38,8 @@ impl HashParameters {
     ) -> Result<HashParameters, DecodeError>
         requires ahead { place decoder.old ≤ end }
         requires inside { end ≤ length (octets decoder.old) }
-        ensures exact { ReadsUnless (λ parameters. hash_values (parameters_data parameters)) result decoder.old decoder.new (fields_at nsec3param_row (octets decoder.old) (place decoder.old) end) }
+        ensures exact { ReadsUnless (λ parameters. hash_values (parameters_data parameters)) result
+            decoder.old decoder.new (fields_at nsec3param_row (octets decoder.old) (place decoder.old) end) }
         ensures inside { place decoder.new ≤ end }
     {
         let mut reader = *decoder;

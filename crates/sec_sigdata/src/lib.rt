@@ -1,5 +1,5 @@
-//! The data of the records of signatures and denial: SIG and RRSIG (RFC 2535, RFC 4034), NSEC (RFC 4034), NSEC3 and NSEC3PARAM
-//! (RFC 5155), TSIG (RFC 8945).
+//! The data of the records of signatures and denial: SIG and RRSIG (RFC 2535, RFC 4034), NSEC (RFC 4034), NSEC3 and
+//! NSEC3PARAM (RFC 5155), TSIG (RFC 8945).
 #![tactic(auto)]
 
 mod borrowed_tsig;

@@ -1,6 +1,7 @@
 //! NSEC records: which name is next in a zone, and which types there are at this one (RFC 4034 4).
 ghost use Rattle.std.specs.Prelude.{◌≡◌, ◌++◌, ◌∷◌, [], Some, IfOk};
 ghost use Rattle.dns_wire.specs.Reading.{octets, place, ReadsUnless};
+ghost use Rattle.dns_types.specs.TypeNumbers as numbers;
 ghost use Rattle.dns_types.specs.TypeSets.{form_of, is_one_of, types};
 ghost use Rattle.dns_grammar.specs.Fields.{fields_octets};
 ghost use Rattle.dns_grammar.specs.RowReaders.{ReadsRow};
@@ -31,13 +32,14 @@ impl NSEC {
     ///
     /// # Errors
     ///
-    /// Want of memory.
+    /// Out of memory.
     pub fn new(
         alloc: Global,
         next_domain_name: Name,
         types: &[RecordType],
     ) -> Result<NSEC, OutOfMemory>
-        ensures { IfOk result (λ nsec. nsec_data nsec ≡ record { next_domain_name = next_domain_name; types = form_of (is_one_of types.now) }) }
+        ensures { IfOk result (λ nsec. nsec_data nsec
+            ≡ record { next_domain_name = next_domain_name; types = form_of (is_one_of types.now) }) }
     {
         Ok(NSEC {
             next_domain_name,
@@ -45,17 +47,22 @@ impl NSEC {
         })
     }
 
-    /// The next name, and these types with those that every name with an NSEC record has: NSEC itself and RRSIG (RFC 4034 4.1.2).
+    /// The next name, and these types with those that every name with an NSEC record has: NSEC itself and RRSIG (RFC
+    /// 4034 4.1.2).
     ///
     /// # Errors
     ///
-    /// Want of memory.
+    /// Out of memory.
     pub fn new_cover_self(
         alloc: Global,
         next_domain_name: Name,
         types: &[RecordType],
     ) -> Result<NSEC, OutOfMemory>
-        ensures { IfOk result (λ nsec. nsec_data nsec ≡ record { next_domain_name = next_domain_name; types = form_of (is_one_of (types.now ++ specs.nsec_type ∷ specs.rrsig_type ∷ [])) }) }
+        ensures { IfOk result (λ nsec. nsec_data nsec
+            ≡ record {
+              next_domain_name = next_domain_name;
+              types = form_of (is_one_of (types.now ++ numbers.NSEC ∷ numbers.RRSIG ∷ []));
+            }) }
     {
         let mut all = Vec::from_slice(alloc, types)?;
         all.push(RecordType::NSEC)?;
@@ -84,8 +91,8 @@ impl NSEC {
         &self.types
     }
 
-    /// Whether the types have DNAME, or NS without SOA: those of a delegation as the zone above sees it, or of a subtree under another
-    /// name (RFC 6840 4.1).
+    /// Whether the types have DNAME, or NS without SOA: those of a delegation as the zone above sees it, or of a
+    /// subtree under another name (RFC 6840 4.1).
     pub fn is_ancestor_delegation(&self) -> bool
         ensures { result ≡ specs.is_ancestor_delegation (nsec_data self.now).types }
     {
@@ -96,7 +103,7 @@ impl NSEC {
     ///
     /// # Errors
     ///
-    /// Want of memory.
+    /// Out of memory.
     pub fn try_clone(&self) -> Result<NSEC, OutOfMemory>
         ensures { IfOk result (λ copy. copy ≡ self.now) }
     {
@@ -135,7 +142,8 @@ impl<'r> RecordDataDecodable<'r> for NSEC {
     ///
     /// # Errors
     ///
-    /// `InsufficientBytes` where an octet is needed past the data, `NameMalformed`, `BitmapMalformed`, or `OutOfMemory`.
+    /// `InsufficientBytes` where an octet is needed past the data, `NameMalformed`, `BitmapMalformed`, or
+    /// `OutOfMemory`.
     #[tactic(auto, using(dns_grammar::proofs::RowReaderLaws::reads_plain_row))]
     fn read_data(
         alloc: Global,
@@ -168,6 +176,3 @@ impl fmt::Display for NSEC {
         write!(f, "{}{}", self.next_domain_name, TypesText(&self.types))
     }
 }
-
-#[cfg(test)]
-mod tests;

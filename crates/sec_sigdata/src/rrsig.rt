@@ -30,7 +30,7 @@ impl RRSIG {
     ///
     /// # Errors
     ///
-    /// Want of memory.
+    /// Out of memory.
     pub fn try_clone(&self) -> Result<RRSIG, OutOfMemory>
         ensures { IfOk result (λ copy. copy ≡ self.now) }
     {

@@ -55,7 +55,7 @@ impl SIG {
     ///
     /// # Errors
     ///
-    /// Want of memory.
+    /// Out of memory.
     pub fn try_clone(&self) -> Result<SIG, OutOfMemory>
         ensures { IfOk result (λ copy. copy ≡ self.now) }
     {
@@ -108,7 +108,8 @@ impl SIG {
 impl<'r> RecordDataDecodable<'r> for SIG {
     ghost is_read = { ReadsRow sig_row (λ sig. sig_values (sig_data sig)) (λ sig. SigIsByNumber (sig_data sig)) };
 
-    /// Reads type covered, algorithm, labels, original TTL, expiration, inception, key tag, signer's name and signature.
+    /// Reads type covered, algorithm, labels, original TTL, expiration, inception, key tag, signer's name and
+    /// signature.
     ///
     /// # Errors
     ///
@@ -145,8 +146,8 @@ impl BinEncodable for SIG {
     }
 }
 
-/// Type covered, name of the algorithm, labels, original TTL, expiration, inception, key tag, signer's name, signature in base64
-/// (RFC 4034 3.2), the times as numbers of seconds.
+/// Type covered, name of the algorithm, labels, original TTL, expiration, inception, key tag, signer's name, signature
+/// in base64 (RFC 4034 3.2), the times as numbers of seconds.
 impl fmt::Display for SIG {
     ghost output = { λ sig. Some (sig_text (sig_data sig)) };
 
@@ -162,6 +163,3 @@ impl fmt::Display for SIG {
         )
     }
 }
-
-#[cfg(test)]
-mod tests;

@@ -31,7 +31,8 @@ pub struct SigInput {
     pub signer_name: Name,
 }
 
-/// The fields are written as in a signature's data, in canonical form with the signer's name in lower case (RFC 4034 6.2).
+/// The fields are written as in a signature's data, in canonical form with the signer's name in lower case (RFC 4034
+/// 6.2).
 impl BinEncodable for SigInput {
     ghost written = { λ canonical _ input. fields_octets canonical input_row (input_values input) };
 

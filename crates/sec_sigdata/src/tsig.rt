@@ -7,11 +7,13 @@ ghost use Rattle.dns_grammar.specs.RecordData.{one_type_data_at};
 ghost use Rattle.dns_grammar.specs.RowReaders.{ReadsRow};
 ghost use Rattle.dns_grammar.specs.Tables.{tsig_row};
 ghost use Rattle.dns_grammar.specs.Messages.{tsig_values};
-ghost use Rattle.sec_sigdata.specs.TsigRecords.{tsig_data, tsig_fields, borrowed_fields, TsigIsByNumber, TsigFits, signed_text, error_text, tsig_text, variables_row, variables_values, written_variables};
+ghost use Rattle.sec_sigdata.specs.TsigRecords.{tsig_data, tsig_fields, borrowed_fields, TsigIsByNumber, TsigFits};
+ghost use Rattle.sec_sigdata.specs.TsigRecords.{signed_text, error_text, tsig_text, variables_row, variables_values};
+ghost use Rattle.sec_sigdata.specs.TsigRecords.{written_variables};
 
 use crate::borrowed_tsig::BorrowedTsig;
 use crate::tsig_algorithm::TsigAlgorithm;
-use crate::tsig_error::{TsigError, optional_number};
+use crate::tsig_error::{TsigError, optional_error_number};
 use dns_grammar::{FieldOut, data_end, emit_fields};
 use dns_names::Name;
 use dns_text::LowerHex;
@@ -52,7 +54,16 @@ impl TSIG {
         error: Option<TsigError>,
         other: Vec<u8>,
     ) -> TSIG
-        ensures { tsig_fields result ≡ record { algorithm = algorithm; time = time; fudge = fudge; mac = mac.items; oid = oid; error = error; other = other.items } }
+        ensures { tsig_fields result
+            ≡ record {
+              algorithm = algorithm;
+              time = time;
+              fudge = fudge;
+              mac = mac.items;
+              oid = oid;
+              error = error;
+              other = other.items;
+            } }
     {
         TSIG {
             algorithm,
@@ -76,7 +87,7 @@ impl TSIG {
     ///
     /// # Errors
     ///
-    /// Want of memory.
+    /// Out of memory.
     pub fn try_clone(&self) -> Result<TSIG, OutOfMemory>
         ensures { IfOk result (λ copy. tsig_fields copy ≡ tsig_fields self.now) }
     {
@@ -106,13 +117,13 @@ impl TSIG {
         }
     }
 
-    /// Writes what a MAC covers of a TSIG record of this owner, the key's name: the TSIG variables (RFC 8945 4.3.3), with names in lower
-    /// case. The MAC and the original ID are none of them.
+    /// Writes what a MAC covers of a TSIG record of this owner, the key's name: the TSIG variables (RFC 8945 4.3.3),
+    /// with names in lower case. The MAC and the original ID are none of them.
     ///
     /// # Errors
     ///
-    /// `TimeTooLarge` for a time of 2^48 or more, then `OtherTooLong` above 65,535 octets, or `OutOfMemory`. The encoder then stays as it
-    /// was.
+    /// `TimeTooLarge` for a time of 2^48 or more, then `OtherTooLong` above 65,535 octets, or `OutOfMemory`. The
+    /// encoder then stays as it was.
     pub fn emit_tsig_for_mac(
         &self,
         encoder: &mut BinEncoder,
@@ -165,7 +176,9 @@ fn emit_variables<'a>(
     algorithm: &'a Name,
     tsig: &'a TSIG,
 ) -> Result<(), EmitError>
-    ensures { Writes result encoder.old encoder.new (fields_octets encoder.old.canonical_form variables_row (variables_values owner.now algorithm.now (tsig_data tsig.now))) }
+    ensures { Writes result encoder.old encoder.new
+        (fields_octets encoder.old.canonical_form variables_row
+        (variables_values owner.now algorithm.now (tsig_data tsig.now))) }
 {
     emit_fields(
         encoder,
@@ -176,7 +189,7 @@ fn emit_variables<'a>(
             FieldOut::Kept(algorithm),
             FieldOut::Time(tsig.time),
             FieldOut::U16(tsig.fudge),
-            FieldOut::U16(optional_number(tsig.error)),
+            FieldOut::U16(optional_error_number(tsig.error)),
             FieldOut::Counted16(tsig.other.as_slice(), EmitError::OtherTooLong),
         ],
     )
@@ -184,16 +197,18 @@ fn emit_variables<'a>(
 
 impl<'r> RecordDataDecodable<'r> for TSIG {
     ghost is_read = { λ len old new result.
-        ReadsRow tsig_row (λ tsig. tsig_values (tsig_data tsig)) (λ tsig. TsigIsByNumber (tsig_fields tsig)) len old new result
+        ReadsRow tsig_row (λ tsig. tsig_values (tsig_data tsig)) (λ tsig. TsigIsByNumber (tsig_fields tsig))
+        len old new result
         × IfOk result (λ tsig. TsigFits (tsig_fields tsig)) };
 
     /// Reads algorithm name, time, fudge, MAC, original ID, error and other data.
     ///
     /// # Errors
     ///
-    /// `InsufficientBytes` where fewer octets are left than `length`, and for a `length` of 0. Then the first field that fails decides:
-    /// `InsufficientBytes` where an octet is needed past the data, the faults of `Name::read_within` for the algorithm's name, and
-    /// `IncorrectRDataLengthRead` where octets are left over. Or `OutOfMemory`.
+    /// `InsufficientBytes` where fewer octets are left than `length`, and for a `length` of 0. Then the first field
+    /// that fails decides: `InsufficientBytes` where an octet is needed past the data, the faults of
+    /// `Name::read_within` for the algorithm's name, and `IncorrectRDataLengthRead` where octets are left over. Or
+    /// `OutOfMemory`.
     #[tactic(auto, using(dns_grammar::proofs::RowReaderLaws::reads_row))]
     fn read_data(
         alloc: Global,
@@ -211,7 +226,8 @@ impl BinEncodable for TSIG {
     ///
     /// # Errors
     ///
-    /// `TimeTooLarge` for a time of 2^48 or more, `MacTooLong` and `OtherTooLong` above 65,535 octets, in this order, or `OutOfMemory`.
+    /// `TimeTooLarge` for a time of 2^48 or more, `MacTooLong` and `OtherTooLong` above 65,535 octets, in this order,
+    /// or `OutOfMemory`.
     fn emit(&self, encoder: &mut BinEncoder) -> Result<(), EmitError> {
         self.borrowed().emit(encoder)
     }
@@ -252,14 +268,14 @@ impl fmt::Display for ErrorText<'_> {
             f,
             "{} {} {}",
             tsig.oid,
-            optional_number(tsig.error),
+            optional_error_number(tsig.error),
             LowerHex(tsig.other.as_slice())
         )
     }
 }
 
-/// The seven fields: the algorithm's name without its last dot, the MAC and the other data in lower-case hexadecimal, and numbers in
-/// decimal digits.
+/// The seven fields: the algorithm's name without its last dot, the MAC and the other data in lower-case hexadecimal,
+/// and numbers in decimal digits.
 impl fmt::Display for TSIG {
     ghost output = { λ tsig. Some (tsig_text (tsig_fields tsig)) };
 
@@ -267,6 +283,3 @@ impl fmt::Display for TSIG {
         write!(f, "{} {}", SignedText(self), ErrorText(self))
     }
 }
-
-#[cfg(test)]
-mod tests;

@@ -3,7 +3,8 @@ ghost use Rattle.std.specs.Prelude.{◌≡◌, ◌<◌, ◌≤◌, ◌↔◌, []
 ghost use Rattle.dns_names.specs.NameText.{bare_name_text};
 ghost use Rattle.dns_wire.specs.Reading.{octets, place, Reads, GivesUnless};
 ghost use Rattle.dns_names.specs.NameWriting.{name_octets};
-ghost use Rattle.sec_sigdata.specs.TsigAlgorithms.{algorithm_name, algorithm_among, tsig_algorithm_named, algorithm_at, hash_of, supported, algorithm_with, mac_of, checked_mac};
+ghost use Rattle.sec_sigdata.specs.TsigAlgorithms.{algorithm_name, algorithm_among, tsig_algorithm_named, algorithm_at};
+ghost use Rattle.sec_sigdata.specs.TsigAlgorithms.{hash_of, supported, algorithm_with, mac_of, checked_mac};
 
 use crate::error::DnsSecError;
 use dns_names::{BareName, Label, Name};
@@ -12,8 +13,8 @@ use sec_digest::{Hmac, HmacHash};
 use std::alloc::Global;
 use std::fmt;
 
-/// An algorithm by which messages are signed, told by its name (RFC 8945 6). Names are told apart by their spelling, the case of letters
-/// included.
+/// An algorithm by which messages are signed, told by its name (RFC 8945 6). Names are told apart by their spelling,
+/// the case of letters included.
 ///
 /// Equality and hash are derived: the same variant, and for `Unknown` the same name, the case of letters aside.
 #[derive(Clone, Copy, Debug, PartialEq, Eq, Hash)]
@@ -96,7 +97,8 @@ fn md5_name() -> Name
     name
 }
 
-/// The first of some algorithms that has a name, its letters' case included, and else the unknown algorithm of that name.
+/// The first of some algorithms that has a name, its letters' case included, and else the unknown algorithm of that
+/// name.
 fn algorithm_among(algorithms: &[TsigAlgorithm], name: Name) -> TsigAlgorithm
     ensures { result ≡ algorithm_among algorithms.now name }
 {
@@ -128,7 +130,8 @@ impl TsigAlgorithm {
         }
     }
 
-    /// The algorithm of a name, which must be spelled as the algorithm's, the case of letters included. Any other name is `Unknown`.
+    /// The algorithm of a name, which must be spelled as the algorithm's, the case of letters included. Any other name
+    /// is `Unknown`.
     pub fn from_name(name: Name) -> TsigAlgorithm
         ensures algorithm { result ≡ tsig_algorithm_named name }
         ensures name { algorithm_name result ≡ name }
@@ -136,7 +139,8 @@ impl TsigAlgorithm {
         algorithm_among(&NAMED, name)
     }
 
-    /// The hash function of the algorithm's HMAC, where the algorithm is supported: SHA-256, SHA-384 or SHA-512, the MAC not cut.
+    /// The hash function of the algorithm's HMAC, where the algorithm is supported: SHA-256, SHA-384 or SHA-512, the
+    /// MAC not cut.
     pub fn hmac_hash(&self) -> Option<HmacHash>
         ensures { result ≡ hash_of self.now }
     {
@@ -218,7 +222,7 @@ impl BinEncodable for TsigAlgorithm {
     ///
     /// # Errors
     ///
-    /// Want of memory.
+    /// Out of memory.
     fn emit(&self, encoder: &mut BinEncoder) -> Result<(), EmitError> {
         self.to_name().emit(encoder)
     }
@@ -245,6 +249,3 @@ impl fmt::Display for TsigAlgorithm {
         write!(f, "{}", BareName(&self.to_name()))
     }
 }
-
-#[cfg(test)]
-mod tests;

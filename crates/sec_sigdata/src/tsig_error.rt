@@ -1,10 +1,10 @@
 //! The errors that a TSIG record tells of (RFC 8945 3).
 ghost use Rattle.std.specs.Prelude.{◌≡◌};
 ghost use Rattle.sec_sigdata.specs.TsigErrors as specs;
-ghost use Rattle.sec_sigdata.specs.TsigErrors.{error_number, error_of};
+ghost use Rattle.sec_sigdata.specs.TsigErrors.{error_number, error_numbered};
 
-/// Why a message's signature was not accepted, as the TSIG of the answer says. The order is that of the variants, with `Unknown` last,
-/// by its number.
+/// Why a message's signature was not accepted, as the TSIG of the answer says. The order is that of the variants, with
+/// `Unknown` last, by its number.
 #[derive(Clone, Copy, Debug, PartialEq, Eq, PartialOrd, Hash)]
 pub enum TsigError {
     /// Number 16: the MAC is not that of the message.
@@ -20,7 +20,7 @@ pub enum TsigError {
 }
 
 impl From<u16> for TsigError {
-    ghost from_gives = { λ number error. error ≡ error_of number };
+    ghost from_gives = { λ number error. error ≡ error_numbered number };
 
     fn from(number: u16) -> TsigError {
         match number {
@@ -48,8 +48,8 @@ impl From<TsigError> for u16 {
 }
 
 /// The number of an error, and 0 for none.
-pub(crate) fn optional_number(error: Option<TsigError>) -> u16
-    ensures { result ≡ specs.optional_number error }
+pub(crate) fn optional_error_number(error: Option<TsigError>) -> u16
+    ensures { result ≡ specs.optional_error_number error }
 {
     match error {
         Some(error) => error.into(),
@@ -60,7 +60,7 @@ pub(crate) fn optional_number(error: Option<TsigError>) -> u16
 /// The error of a number, and none for 0.
 pub(crate) fn optional_error(number: u16) -> Option<TsigError>
     ensures error { result ≡ specs.optional_error number }
-    ensures number { specs.optional_number result ≡ number }
+    ensures number { specs.optional_error_number result ≡ number }
 {
     if number == 0 {
         None
@@ -68,6 +68,3 @@ pub(crate) fn optional_error(number: u16) -> Option<TsigError>
         Some(TsigError::from(number))
     }
 }
-
-#[cfg(test)]
-mod tests;

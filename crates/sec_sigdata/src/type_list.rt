@@ -5,8 +5,8 @@ ghost use Rattle.sec_sigdata.specs.TypeLists as specs;
 use dns_types::{RecordType, RecordTypeSet};
 use std::fmt;
 
-/// Whether the types are those of a delegation as the zone above sees it, NS without SOA, or of a subtree under another name, DNAME
-/// (RFC 6840 4.1).
+/// Whether the types are those of a delegation as the zone above sees it, NS without SOA, or of a subtree under another
+/// name, DNAME (RFC 6840 4.1).
 pub(crate) fn is_ancestor_delegation(types: &RecordTypeSet) -> bool
     ensures { result ≡ specs.is_ancestor_delegation types.now }
 {

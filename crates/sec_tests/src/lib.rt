@@ -5,3 +5,11 @@
 mod codes;
 #[cfg(test)]
 mod digest;
+#[cfg(test)]
+mod keydata;
+#[cfg(test)]
+mod keydata_text;
+#[cfg(test)]
+mod sigdata;
+#[cfg(test)]
+mod sigdata_tsig;

@@ -1,8 +1,9 @@
-use Rattle.std.proofs.Common.{◌≡◌, ◌++◌, ◌+◌, ℕ, List, length, take, refl, ap, sym, ◌∙◌, append_assoc, arith, length-append}
+use Rattle.std.proofs.Common.{◌≡◌, ◌++◌, ◌+◌, ℕ, List, length, take, refl, ap, sym, ◌∙◌, append_assoc, arith}
+use Rattle.std.proofs.Common.{length-append}
 use Rattle.std.proofs.lemmas.List.{take_at}
 use Rattle.dns_names.specs.Names.{wire, low}
-use Rattle.sec_keydata.specs.DnskeyFields.{fields_key}
-use Rattle.sec_keydata.specs.KeyTags.{dnskey_octets}
+use Rattle.sec_keydata.specs.PublicKeyFields.{lent_fields}
+use Rattle.sec_keydata.specs.KeyTags.{key_octets}
 use Rattle.sec_keydata.proofs.dnskey_fields.DnskeyFields.before_key.Goals as goal
 
 -- what stands in front after the two copies
@@ -19,4 +20,4 @@ returns-clause-octets c =
     let key = c.args.self.now.public_key.now in
     let owner : name ≡ wire (low c.args.owner.now) = c.as_wire-name.ensures.value ∙ ap wire c.to_lowercase-low.ensures.value in
     ap (λ t. t ++ key) (two_copies name c.head.result _ _ _ _ c.copy_from_slice.ensures.after c.copy_from_slice-2.ensures.after (omega arith))
-    ∙ (append_assoc name c.head.result key ∙ (ap (λ t. name ++ t) c.head.ensures ∙ ap (λ t. t ++ dnskey_octets (fields_key c.args.self.now)) owner))
+    ∙ (append_assoc name c.head.result key ∙ (ap (λ t. name ++ t) c.head.ensures ∙ ap (λ t. t ++ key_octets (lent_fields c.args.self.now)) owner))

@@ -1,7 +1,7 @@
 -- The flags of a KEY give the three that they are made of, and have no fault.
-use Rattle.std.proofs.Common.{◌≡◌, ◌≤◌, ◌<◌, ℕ, zero, suc, ◌+◌, ◌*◌, ◌^◌, ◌/◌, ◌%◌, Bool, true, false, Option, Some, None, refl, subst, arith, inl, inr}
-use Rattle.std.specs.Prelude.{◌&&◌}
-use Rattle.std.proofs.lemmas.Bool.{cases_lt}
+use Rattle.std.proofs.Common.{◌≡◌, ◌≤◌, ◌<◌, ℕ, ◌+◌, ◌*◌, ◌^◌, ◌/◌, ◌%◌, Bool, true, false, Option, Some, None, refl}
+use Rattle.std.proofs.Common.{subst, arith}
+use Rattle.std.proofs.lemmas.Bool.{agree_below_at}
 use Rattle.dns_wire.specs.declared.error.DecodeError.{DecodeError}
 use Rattle.dns_grammar.specs.Fields.{Num}
 use Rattle.sec_keydata.specs.KeyRows.{key_flags_fault}
@@ -10,7 +10,8 @@ use Rattle.sec_keydata.specs.declared.key_uses.KeyTrust.TheVariants as trusts
 use Rattle.sec_keydata.specs.declared.key_uses.KeyUsage.{KeyUsage}
 use Rattle.sec_keydata.specs.declared.key_uses.KeyUsage.TheVariants as usages
 use Rattle.sec_keydata.specs.declared.key_uses.UpdateScope.{UpdateScope}
-use Rattle.sec_keydata.specs.KeyUses.{trust_code, usage_code, bit_value, scope_bits, all_flags}
+use Rattle.sec_keydata.specs.Flags.{flag_if}
+use Rattle.sec_keydata.specs.KeyUses.{trust_code, usage_code, scope_bits, all_flags}
 
 trust_small : (t : KeyTrust) → trust_code t < 4
 trust_small trusts.AuthOrPrivate = omega arith
@@ -24,16 +25,16 @@ usage_small usages.Zone = omega arith
 usage_small usages.Entity = omega arith
 usage_small usages.Reserved = omega arith
 
-bit_small : (b : Bool) (n : ℕ) → bit_value b n ≤ n
-bit_small true n = omega arith
-bit_small false n = omega arith
+flag_small : (n : ℕ) (b : Bool) → flag_if n b ≤ n
+flag_small n true = omega arith
+flag_small n false = omega arith
 
 scope_small : (s : UpdateScope) → scope_bits s < 16
 scope_small s =
-    let zone = bit_small s.zone 8 in
-    let strong = bit_small s.strong 4 in
-    let unique = bit_small s.unique 2 in
-    let general = bit_small s.general 1 in
+    let zone = flag_small 8 s.zone in
+    let strong = flag_small 4 s.strong in
+    let unique = flag_small 2 s.unique in
+    let general = flag_small 1 s.general in
     omega (arith, zone, strong, unique, general)
 
 pub trust_kept : (t : KeyTrust) (u : KeyUsage) (s : UpdateScope) → all_flags t u s / 2 ^ 14 % 4 ≡ trust_code t
@@ -44,24 +45,6 @@ usage_kept t u s = let a = trust_small t in let b = usage_small u in let c = sco
 
 pub scope_kept : (t : KeyTrust) (u : KeyUsage) (s : UpdateScope) → all_flags t u s % 16 ≡ scope_bits s
 scope_kept t u s = let a = trust_small t in let b = usage_small u in let c = scope_small s in omega (arith, a, b, c)
-
--- whether each number below n passes
-abbrev all_below : (ℕ → Bool) → ℕ → Bool
-all_below p zero = true
-all_below p (suc n) = p n && all_below p n
-
-both : (a b : Bool) → (a && b) ≡ true → (a ≡ true) × (b ≡ true)
-both true b e = (refl, e)
-both false b e = cc
-
-below_passes : (p : ℕ → Bool) (n : ℕ) → all_below p n ≡ true → (k : ℕ) → k < n → p k ≡ true
-below_passes p zero e k h = absurd (omega arith)
-below_passes p (suc n) e k h = elim (cases_lt k n) [
-  | inl before ↦ below_passes p n (both (p n) (all_below p n) e).1 k before
-  | inr last ↦
-      let same : k ≡ n = omega arith in
-      rw same (both (p n) (all_below p n) e).0
-]
 
 abbrev no_fault : Option DecodeError → Bool
 no_fault None = true
@@ -76,7 +59,9 @@ abbrev flags_of_place : ℕ → ℕ
 flags_of_place k = k / 64 * 2 ^ 14 + k / 16 % 4 * 2 ^ 8 + k % 16
 
 place_allowed : (k : ℕ) → k < 256 → key_flags_fault (Num (flags_of_place k)) ≡ None
-place_allowed k h = fault_free (key_flags_fault (Num (flags_of_place k))) (below_passes (λ k. no_fault (key_flags_fault (Num (flags_of_place k)))) 256 refl k h)
+place_allowed k h =
+    fault_free (key_flags_fault (Num (flags_of_place k)))
+    (agree_below_at (λ k. no_fault (key_flags_fault (Num (flags_of_place k)))) (λ _. true) 256 k refl h)
 
 pub flags_allowed : (t : KeyTrust) (u : KeyUsage) (s : UpdateScope) → key_flags_fault (Num (all_flags t u s)) ≡ None
 flags_allowed t u s =
@@ -87,3 +72,5 @@ flags_allowed t u s =
     let small : k < 256 = omega (arith, a, b, c) in
     let same : flags_of_place k ≡ all_flags t u s = omega (arith, a, b, c) in
     subst (λ n. key_flags_fault (Num n) ≡ None) same (place_allowed k small)
+
+pub ruleset flags_of_uses = (trust_kept, usage_kept, scope_kept, flags_allowed)
