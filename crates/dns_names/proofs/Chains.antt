@@ -2,14 +2,14 @@
 use Rattle.std.proofs.Common.{◌≡◌, ℕ, zero, suc, ◌+◌, ◌-◌, ◌*◌, ◌<◌, ◌≤◌, List, [], ◌∷◌, ◌++◌, length, replicate, append_assoc, append-nil, slice_index, slice_range, refl, ap, sym, subst, ◌∙◌, arith, Result, Ok, Err, Option, Some, None, unwrap_or}
 use Rattle.std.specs.Option.{option_or}
 use Rattle.std.proofs.lemmas.List.Edits.{length-between}
-use Rattle.dns_names.proofs.Pushed.{length-wire-push}
+use Rattle.dns_names.proofs.NamePush.{length-wire-push}
 use Rattle.dns_names.specs.Names.{wire}
 use Rattle.dns_names.proofs.Steps.{Outcome, reads_end, reads_zero, reads_long, reads_short, reads_label, reads_other, reads_half, reads_forward, reads_pointer}
-use Rattle.dns_names.proofs.PlaceLaws.{labels_from-octet}
+use Rattle.dns_names.proofs.PlaceLaws.{read_labels-octet}
 use Rattle.dns_wire.specs.declared.error.DecodeError.{DecodeError}
 use Rattle.dns_wire.specs.declared.error.DecodeError.TheVariants.{InsufficientBytes, NameMalformed}
-use Rattle.dns_names.specs.Places.{pointer_target, read_octet, with_label, at_pointer, labels_from, name_at}
-use Rattle.dns_names.specs.Jumps.{next_of, labels_of, LeadsTo, AreJumps}
+use Rattle.dns_names.specs.Places.{pointer_target, read_octet, prepend_label, at_pointer, read_labels, name_at}
+use Rattle.dns_names.specs.Jumps.{next_of, labels_read, LeadsTo, AreJumps}
 
 -- ---- chains
 
@@ -23,15 +23,15 @@ leads-on a b = record { back = omega (arith, a.back, b.back); same = λ size sma
 pub leads-between : {m : List ℕ} {t u v : ℕ} → LeadsTo m t v → LeadsTo m t u → v ≤ u → LeadsTo m u v
 leads-between a b le = record { back = le; same = λ size small. sym (b.same size small) ∙ a.same size small }
 
-labels_of-at_pointer : (q : ℕ) (o : Outcome) → labels_of (at_pointer q o) ≡ labels_of o
-labels_of-at_pointer q (Ok x) = refl
-labels_of-at_pointer q (Err fault) = refl
+labels_read-at_pointer : (q : ℕ) (o : Outcome) → labels_read (at_pointer q o) ≡ labels_read o
+labels_read-at_pointer q (Ok x) = refl
+labels_read-at_pointer q (Err fault) = refl
 
 -- a pointer that leads back leads to its target
 pub leads-pointer : (m : List ℕ) (t : ℕ) → t + 2 ≤ length m → 192 ≤ slice_index m t → pointer_target m t < t → LeadsTo m t (pointer_target m t)
 leads-pointer m t within high before = record {
   back = omega arith;
-  same = λ size small. ap labels_of (labels_from-octet m t t (length m) size small ∙ reads_pointer m t t (length m) size _ _ (omega arith) high within before) ∙ labels_of-at_pointer (t + 2) _;
+  same = λ size small. ap labels_read (read_labels-octet m t t (length m) size small ∙ reads_pointer m t t (length m) size _ _ (omega arith) high within before) ∙ labels_read-at_pointer (t + 2) _;
 }
 
 -- an entry leads where it says
@@ -59,9 +59,9 @@ abbrev pub next_or : Option ℕ → Outcome → Result ℕ DecodeError
 next_or next (Ok x) = Ok (unwrap_or next x.1)
 next_or next (Err fault) = Err fault
 
-next_or-with_label : (next : Option ℕ) (label : List ℕ) (o : Outcome) → next_or next (with_label label o) ≡ next_or next o
-next_or-with_label next label (Ok x) = refl
-next_or-with_label next label (Err fault) = refl
+next_or-prepend_label : (next : Option ℕ) (label : List ℕ) (o : Outcome) → next_or next (prepend_label label o) ≡ next_or next o
+next_or-prepend_label next label (Ok x) = refl
+next_or-prepend_label next label (Err fault) = refl
 
 next_or-at_pointer : (next : Option ℕ) (q : ℕ) (o : Outcome) → next_or next (at_pointer q o) ≡ next_or (option_or next (Some q)) o
 next_or-at_pointer None q (Ok x) = refl
@@ -78,7 +78,7 @@ abbrev next_given : ℕ → Result (List (List ℕ)) DecodeError → Result ℕ 
 next_given q (Ok n) = Ok q
 next_given q (Err fault) = Err fault
 
-next_or-given : (next : Option ℕ) (q : ℕ) (o : Outcome) → next_or (option_or next (Some q)) o ≡ next_given (unwrap_or next q) (labels_of o)
+next_or-given : (next : Option ℕ) (q : ℕ) (o : Outcome) → next_or (option_or next (Some q)) o ≡ next_given (unwrap_or next q) (labels_read o)
 next_or-given None q (Ok x) = refl
 next_or-given None q (Err fault) = refl
 next_or-given (Some p) q (Ok x) = refl
@@ -89,21 +89,21 @@ next_or-given (Some p) q (Err fault) = refl
 pub record SkipSoFar (m : List ℕ) (start limit run place end size : ℕ) (next : Option ℕ) : Type 0 where
   pub within : end ≤ length m
   pub fits : size ≤ 255
-  pub read : next_or next (labels_from m run place end size) ≡ next_of (name_at m start limit)
+  pub read : next_or next (read_labels m run place end size) ≡ next_of (name_at m start limit)
 
 pub begins : (m : List ℕ) (start limit : ℕ) → limit ≤ length m → SkipSoFar m start limit start start limit 1 None
 unfolding name_at
-begins m start limit h = record { within = h; fits = omega arith; read = next_or-none (labels_from m start start limit 1) }
+begins m start limit h = record { within = h; fits = omega arith; read = next_or-none (read_labels m start start limit 1) }
 
 module _ {m : List ℕ} {start limit run place end size : ℕ} {next : Option ℕ} (i : SkipSoFar m start limit run place end size next) where
   abbrev on_label : Outcome
-  on_label = labels_from m run (place + 1 + slice_index m place) end (size + 1 + slice_index m place)
+  on_label = read_labels m run (place + 1 + slice_index m place) end (size + 1 + slice_index m place)
 
   abbrev on_pointer : Outcome
-  on_pointer = labels_from m (pointer_target m place) (pointer_target m place) (length m) size
+  on_pointer = read_labels m (pointer_target m place) (pointer_target m place) (length m) size
 
   step_is : next_or next (read_octet m run place end size on_label on_pointer) ≡ next_of (name_at m start limit)
-  step_is = ap (next_or next) (sym (labels_from-octet m run place end size i.fits)) ∙ i.read
+  step_is = ap (next_or next) (sym (read_labels-octet m run place end size i.fits)) ∙ i.read
 
   stops : (o : Outcome) → read_octet m run place end size on_label on_pointer ≡ o → next_or next o ≡ next_of (name_at m start limit)
   stops o h = ap (next_or next) (sym h) ∙ step_is
@@ -136,8 +136,8 @@ module _ {m : List ℕ} {start limit run place end size : ℕ} {next : Option �
       record {
         within = i.within;
         fits = omega arith;
-        read = ap (λ s. next_or next (labels_from m run (place + 1 + slice_index m place) end s)) longer
-            ∙ sym (next_or-with_label next (slice_range m (place + 1) (place + 1 + slice_index m place)) on_label)
+        read = ap (λ s. next_or next (read_labels m run (place + 1 + slice_index m place) end s)) longer
+            ∙ sym (next_or-prepend_label next (slice_range m (place + 1) (place + 1 + slice_index m place)) on_label)
             ∙ ap (next_or next) (sym (reads_label m run place end size on_label on_pointer h some few fits behind))
             ∙ step_is;
       }
@@ -148,7 +148,7 @@ module _ {m : List ℕ} {start limit run place end size : ℕ} {next : Option �
       record {
         within = omega arith;
         fits = i.fits;
-        read = next_or-given next (place + 2) (labels_from m u u (length m) size)
+        read = next_or-given next (place + 2) (read_labels m u u (length m) size)
             ∙ ap (next_given (unwrap_or next (place + 2))) (sym (leads.same size i.fits))
             ∙ sym (next_or-given next (place + 2) on_pointer)
             ∙ sym (next_or-at_pointer next (place + 2) on_pointer)
@@ -166,9 +166,9 @@ whole front next (Ok x) = Ok (front ++ x.0, unwrap_or next x.1)
 whole front next (Err fault) = Err fault
 
 -- a label moves from what is read to what was read
-pub whole-with_label : (front : List (List ℕ)) (next : Option ℕ) (label : List ℕ) (o : Outcome) → whole front next (with_label label o) ≡ whole (front ++ label ∷ []) next o
-whole-with_label front next label (Ok x) = ap (λ n. Ok (n, unwrap_or next x.1)) (sym (append_assoc front (label ∷ []) x.0))
-whole-with_label front next label (Err fault) = refl
+pub whole-prepend_label : (front : List (List ℕ)) (next : Option ℕ) (label : List ℕ) (o : Outcome) → whole front next (prepend_label label o) ≡ whole (front ++ label ∷ []) next o
+whole-prepend_label front next label (Ok x) = ap (λ n. Ok (n, unwrap_or next x.1)) (sym (append_assoc front (label ∷ []) x.0))
+whole-prepend_label front next label (Err fault) = refl
 
 -- the first pointer says where the place behind the run is
 pub whole-at_pointer : (front : List (List ℕ)) (next : Option ℕ) (q : ℕ) (o : Outcome) → whole front next (at_pointer q o) ≡ whole front (option_or next (Some q)) o
@@ -182,7 +182,7 @@ abbrev whole_given : List (List ℕ) → ℕ → Result (List (List ℕ)) Decode
 whole_given front q (Ok n) = Ok (front ++ n, q)
 whole_given front q (Err fault) = Err fault
 
-whole-given : (front : List (List ℕ)) (next : Option ℕ) (q : ℕ) (o : Outcome) → whole front (option_or next (Some q)) o ≡ whole_given front (unwrap_or next q) (labels_of o)
+whole-given : (front : List (List ℕ)) (next : Option ℕ) (q : ℕ) (o : Outcome) → whole front (option_or next (Some q)) o ≡ whole_given front (unwrap_or next q) (labels_read o)
 whole-given front None q (Ok x) = refl
 whole-given front None q (Err fault) = refl
 whole-given front (Some p) q (Ok x) = refl
@@ -197,24 +197,24 @@ whole-front (Err fault) = refl
 pub record NameSoFar (m : List ℕ) (start limit : ℕ) (name : List (List ℕ)) (run place end : ℕ) (next : Option ℕ) : Type 0 where
   pub within : end ≤ length m
   pub fits : length (wire name) ≤ 255
-  pub read : whole name next (labels_from m run place end (length (wire name))) ≡ name_at m start limit
+  pub read : whole name next (read_labels m run place end (length (wire name))) ≡ name_at m start limit
 
 pub reading_begins : (m : List ℕ) (start limit : ℕ) → limit ≤ length m → NameSoFar m start limit [] start start limit None
 unfolding name_at
-reading_begins m start limit h = record { within = h; fits = omega arith; read = whole-front (labels_from m start start limit 1) }
+reading_begins m start limit h = record { within = h; fits = omega arith; read = whole-front (read_labels m start start limit 1) }
 
 module _ {m : List ℕ} {start limit : ℕ} {name : List (List ℕ)} {run place end : ℕ} {next : Option ℕ} (i : NameSoFar m start limit name run place end next) where
   abbrev name_size : ℕ
   name_size = length (wire name)
 
   abbrev behind_label : Outcome
-  behind_label = labels_from m run (place + 1 + slice_index m place) end (name_size + 1 + slice_index m place)
+  behind_label = read_labels m run (place + 1 + slice_index m place) end (name_size + 1 + slice_index m place)
 
   abbrev behind_pointer : Outcome
-  behind_pointer = labels_from m (pointer_target m place) (pointer_target m place) (length m) name_size
+  behind_pointer = read_labels m (pointer_target m place) (pointer_target m place) (length m) name_size
 
   name_step : whole name next (read_octet m run place end name_size behind_label behind_pointer) ≡ name_at m start limit
-  name_step = ap (whole name next) (sym (labels_from-octet m run place end name_size i.fits)) ∙ i.read
+  name_step = ap (whole name next) (sym (read_labels-octet m run place end name_size i.fits)) ∙ i.read
 
   ends : (o : Outcome) → read_octet m run place end name_size behind_label behind_pointer ≡ o → whole name next o ≡ name_at m start limit
   ends o h = ap (whole name next) (sym h) ∙ name_step
@@ -249,8 +249,8 @@ module _ {m : List ℕ} {start limit : ℕ} {name : List (List ℕ)} {run place 
       record {
         within = i.within;
         fits = omega (arith, longer);
-        read = ap (λ s. whole (name ++ label ∷ []) next (labels_from m run (place + 1 + slice_index m place) end s)) longer
-            ∙ sym (whole-with_label name next label behind_label)
+        read = ap (λ s. whole (name ++ label ∷ []) next (read_labels m run (place + 1 + slice_index m place) end s)) longer
+            ∙ sym (whole-prepend_label name next label behind_label)
             ∙ ap (whole name next) (sym (reads_label m run place end name_size behind_label behind_pointer h some few fits behind))
             ∙ name_step;
       }
@@ -261,7 +261,7 @@ module _ {m : List ℕ} {start limit : ℕ} {name : List (List ℕ)} {run place 
       record {
         within = omega arith;
         fits = i.fits;
-        read = whole-given name next (place + 2) (labels_from m u u (length m) name_size)
+        read = whole-given name next (place + 2) (read_labels m u u (length m) name_size)
             ∙ ap (whole_given name (unwrap_or next (place + 2))) (sym (leads.same name_size i.fits))
             ∙ sym (whole-given name next (place + 2) behind_pointer)
             ∙ sym (whole-at_pointer name next (place + 2) behind_pointer)

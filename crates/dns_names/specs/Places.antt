@@ -24,9 +24,9 @@ pub record NameAt (m : List ℕ) (p e : ℕ) (n : List (List ℕ)) (q : ℕ) : T
   pub labels : Labels m p p e n q
 
 -- a label before what is read behind it
-abbrev pub with_label : List ℕ → Result (List (List ℕ) × ℕ) DecodeError → Result (List (List ℕ) × ℕ) DecodeError
-with_label octets (Ok x) = Ok (octets ∷ x.0, x.1)
-with_label octets (Err fault) = Err fault
+abbrev pub prepend_label : List ℕ → Result (List (List ℕ) × ℕ) DecodeError → Result (List (List ℕ) × ℕ) DecodeError
+prepend_label octets (Ok x) = Ok (octets ∷ x.0, x.1)
+prepend_label octets (Err fault) = Err fault
 
 -- the labels that a pointer leads to, and the place behind the pointer
 abbrev pub at_pointer : ℕ → Result (List (List ℕ) × ℕ) DecodeError → Result (List (List ℕ) × ℕ) DecodeError
@@ -44,23 +44,23 @@ read_octet m r p e size behind_label at_target =
     else if nat_lt octet 64 then
     (if nat_lt 255 (size + octet + 1) then Err NameMalformed
     else if nat_lt e behind then Err InsufficientBytes
-    else with_label (slice_range m (p + 1) behind) behind_label)
+    else prepend_label (slice_range m (p + 1) behind) behind_label)
     else if nat_lt octet 192 then Err NameMalformed
     else if nat_lt e (p + 2) then Err InsufficientBytes
     else if nat_le r (pointer_target m p) then Err NameMalformed
     else at_pointer (p + 2) at_target
 
 -- What reading at place p gives: the labels and the place behind the run, or the first fault. Each step is a label or a pointer.
-unfoldable pub labels_at : (steps : ℕ) → List ℕ → ℕ → ℕ → ℕ → ℕ → Result (List (List ℕ) × ℕ) DecodeError
-labels_at zero m r p e size = Err NameMalformed
-labels_at (suc steps) m r p e size =
-    read_octet m r p e size (labels_at steps m r (p + 1 + slice_index m p) e (size + 1 + slice_index m p)) (labels_at steps m (pointer_target m p) (pointer_target m p) (length m) size)
+unfoldable pub labels_in_steps : (steps : ℕ) → List ℕ → ℕ → ℕ → ℕ → ℕ → Result (List (List ℕ) × ℕ) DecodeError
+labels_in_steps zero m r p e size = Err NameMalformed
+labels_in_steps (suc steps) m r p e size =
+    read_octet m r p e size (labels_in_steps steps m r (p + 1 + slice_index m p) e (size + 1 + slice_index m p)) (labels_in_steps steps m (pointer_target m p) (pointer_target m p) (length m) size)
 
 -- What reading at place p gives, with as many steps as there can be: each pointer leads back, and fewer than 256 labels stand between two
 -- of them.
-abbrev pub labels_from : List ℕ → ℕ → ℕ → ℕ → ℕ → Result (List (List ℕ) × ℕ) DecodeError
-labels_from m r p e size = labels_at (256 * r + 257) m r p e size
+abbrev pub read_labels : List ℕ → ℕ → ℕ → ℕ → ℕ → Result (List (List ℕ) × ℕ) DecodeError
+read_labels m r p e size = labels_in_steps (256 * r + 257) m r p e size
 
 -- What reading a name at place p gives, its first run ending at or before e.
 unfoldable pub name_at : List ℕ → ℕ → ℕ → Result (List (List ℕ) × ℕ) DecodeError
-name_at m p e = labels_from m p p e 1
+name_at m p e = read_labels m p p e 1

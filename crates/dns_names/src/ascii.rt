@@ -2,7 +2,7 @@
 ghost use Rattle.std.specs.Prelude.{◌≡◌, ◌+◌, ◌<◌, ◌≤◌, ◌++◌, ◌∷◌, [], length, IfOk, MatchResult, Ok, Err};
 ghost use Rattle.dns_names.specs.Names.{IsName};
 ghost use Rattle.dns_wire.specs.Reading.{Gives};
-ghost use Rattle.dns_names.specs.NameText.{first_octet, escaped, with_label, labels_of, at_end, name_of};
+ghost use Rattle.dns_names.specs.NameText.{first_octet, escaped, add_label, labels_of, at_end, name_from_text};
 
 use crate::name::Name;
 use dns_wire::NameError;
@@ -112,7 +112,7 @@ impl Name {
     /// Puts a label at the end, where it is one and there is room.
     fn push_label(&mut self, label: &[u8]) -> Result<(), NameError>
         requires { length label.now ≤ 63 }
-        ensures { MatchResult result (λ _. with_label self.old label.now ≡ Ok self.new) (λ e. with_label self.old label.now ≡ Err e) }
+        ensures { MatchResult result (λ _. add_label self.old label.now ≡ Ok self.new) (λ e. add_label self.old label.now ≡ Err e) }
     {
         if label.is_empty() {
             return Err(NameError::EmptyLabel);
@@ -145,7 +145,7 @@ impl Name {
     /// octet of a label, `NameTooLong` at the end of a label that brings the wire form above 255 octets, `BadEscape` at a backslash
     /// before anything else, `BadCharacter` at a character that is not visible ASCII.
     pub fn from_ascii(text: &str) -> Result<Name, NameError>
-        ensures exact { result ≡ name_of text.now }
+        ensures exact { result ≡ name_from_text text.now }
         ensures name { IfOk result IsName }
     {
         if text == "." {

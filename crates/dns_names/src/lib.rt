@@ -15,4 +15,4 @@ pub use jumps::skip_name;
 pub use label::Label;
 pub use lower_name::LowerName;
 pub use name::{LabelIter, Name};
-pub use text::BareName;
+pub use text::NameWithoutDot;

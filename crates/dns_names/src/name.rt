@@ -34,11 +34,11 @@ pub struct Name {
 impl Model for Name {
     ghost use Rattle.std.specs.Prelude.{List, ℕ, length};
     ghost use Rattle.std.proofs.Common.{sym};
-    ghost use Rattle.dns_names.specs.Names.{labels_in, wire, padded, HoldsName};
+    ghost use Rattle.dns_names.specs.Names.{labels_of_wire, wire, padded, HoldsName};
 
     ghost Value = { List (List ℕ) };
 
-    ghost view = { λ s. labels_in s.octets };
+    ghost view = { λ s. labels_of_wire s.octets };
 
     ghost invariant = { λ s. HoldsName s.octets s.len };
 
@@ -310,11 +310,11 @@ pub struct LabelIter<'a> {
 
 impl<'a> Model for LabelIter<'a> {
     ghost use Rattle.std.specs.Prelude.{List, ℕ};
-    ghost use Rattle.dns_names.specs.Names.{labels_in, IsWire};
+    ghost use Rattle.dns_names.specs.Names.{labels_of_wire, IsWire};
 
     ghost Value = { List (List ℕ) };
 
-    ghost view = { λ s. labels_in s.rest.now };
+    ghost view = { λ s. labels_of_wire s.rest.now };
 
     ghost invariant = { λ s. IsWire s.rest.now };
 }
