@@ -4,11 +4,11 @@ use Rattle.std.specs.Option.{option_or}
 use Rattle.std.proofs.lemmas.List.Edits.{length-between}
 use Rattle.dns_names.proofs.NamePush.{length-wire-push}
 use Rattle.dns_names.specs.Names.{wire}
-use Rattle.dns_names.proofs.Steps.{Outcome, reads_end, reads_zero, reads_long, reads_short, reads_label, reads_other, reads_half, reads_forward, reads_pointer}
+use Rattle.dns_names.proofs.Steps.{reads_end, reads_zero, reads_long, reads_short, reads_label, reads_other, reads_half, reads_forward, reads_pointer}
 use Rattle.dns_names.proofs.PlaceLaws.{read_labels-octet}
 use Rattle.dns_wire.specs.declared.error.DecodeError.{DecodeError}
 use Rattle.dns_wire.specs.declared.error.DecodeError.TheVariants.{InsufficientBytes, NameMalformed}
-use Rattle.dns_names.specs.Places.{pointer_target, read_octet, prepend_label, at_pointer, read_labels, name_at}
+use Rattle.dns_names.specs.Places.{LabelsRead, pointer_target, read_octet, prepend_label, at_pointer, read_labels, name_at}
 use Rattle.dns_names.specs.Jumps.{next_of, labels_read, LeadsTo, AreJumps}
 
 -- ---- chains
@@ -23,7 +23,7 @@ leads-on a b = record { back = omega (arith, a.back, b.back); same = λ size sma
 pub leads-between : {m : List ℕ} {t u v : ℕ} → LeadsTo m t v → LeadsTo m t u → v ≤ u → LeadsTo m u v
 leads-between a b le = record { back = le; same = λ size small. sym (b.same size small) ∙ a.same size small }
 
-labels_read-at_pointer : (q : ℕ) (o : Outcome) → labels_read (at_pointer q o) ≡ labels_read o
+labels_read-at_pointer : (q : ℕ) (o : LabelsRead) → labels_read (at_pointer q o) ≡ labels_read o
 labels_read-at_pointer q (Ok x) = refl
 labels_read-at_pointer q (Err fault) = refl
 
@@ -55,21 +55,21 @@ pub ruleset steps = (leads-self, leads-on, leads-between, leads-pointer, leads-j
 -- ---- names
 
 -- the place behind the first run, which the first pointer gives
-abbrev pub next_or : Option ℕ → Outcome → Result ℕ DecodeError
+abbrev pub next_or : Option ℕ → LabelsRead → Result ℕ DecodeError
 next_or next (Ok x) = Ok (unwrap_or next x.1)
 next_or next (Err fault) = Err fault
 
-next_or-prepend_label : (next : Option ℕ) (label : List ℕ) (o : Outcome) → next_or next (prepend_label label o) ≡ next_or next o
+next_or-prepend_label : (next : Option ℕ) (label : List ℕ) (o : LabelsRead) → next_or next (prepend_label label o) ≡ next_or next o
 next_or-prepend_label next label (Ok x) = refl
 next_or-prepend_label next label (Err fault) = refl
 
-next_or-at_pointer : (next : Option ℕ) (q : ℕ) (o : Outcome) → next_or next (at_pointer q o) ≡ next_or (option_or next (Some q)) o
+next_or-at_pointer : (next : Option ℕ) (q : ℕ) (o : LabelsRead) → next_or next (at_pointer q o) ≡ next_or (option_or next (Some q)) o
 next_or-at_pointer None q (Ok x) = refl
 next_or-at_pointer None q (Err fault) = refl
 next_or-at_pointer (Some p) q (Ok x) = refl
 next_or-at_pointer (Some p) q (Err fault) = refl
 
-next_or-none : (o : Outcome) → next_or None o ≡ next_of o
+next_or-none : (o : LabelsRead) → next_or None o ≡ next_of o
 next_or-none (Ok x) = refl
 next_or-none (Err fault) = refl
 
@@ -78,7 +78,7 @@ abbrev next_given : ℕ → Result (List (List ℕ)) DecodeError → Result ℕ 
 next_given q (Ok n) = Ok q
 next_given q (Err fault) = Err fault
 
-next_or-given : (next : Option ℕ) (q : ℕ) (o : Outcome) → next_or (option_or next (Some q)) o ≡ next_given (unwrap_or next q) (labels_read o)
+next_or-given : (next : Option ℕ) (q : ℕ) (o : LabelsRead) → next_or (option_or next (Some q)) o ≡ next_given (unwrap_or next q) (labels_read o)
 next_or-given None q (Ok x) = refl
 next_or-given None q (Err fault) = refl
 next_or-given (Some p) q (Ok x) = refl
@@ -96,16 +96,16 @@ unfolding name_at
 begins m start limit h = record { within = h; fits = omega arith; read = next_or-none (read_labels m start start limit 1) }
 
 module _ {m : List ℕ} {start limit run place end size : ℕ} {next : Option ℕ} (i : SkipSoFar m start limit run place end size next) where
-  abbrev on_label : Outcome
+  abbrev on_label : LabelsRead
   on_label = read_labels m run (place + 1 + slice_index m place) end (size + 1 + slice_index m place)
 
-  abbrev on_pointer : Outcome
+  abbrev on_pointer : LabelsRead
   on_pointer = read_labels m (pointer_target m place) (pointer_target m place) (length m) size
 
   step_is : next_or next (read_octet m run place end size on_label on_pointer) ≡ next_of (name_at m start limit)
   step_is = ap (next_or next) (sym (read_labels-octet m run place end size i.fits)) ∙ i.read
 
-  stops : (o : Outcome) → read_octet m run place end size on_label on_pointer ≡ o → next_or next o ≡ next_of (name_at m start limit)
+  stops : (o : LabelsRead) → read_octet m run place end size on_label on_pointer ≡ o → next_or next o ≡ next_of (name_at m start limit)
   stops o h = ap (next_or next) (sym h) ∙ step_is
 
   pub stops_end : end ≤ place → Err InsufficientBytes ≡ next_of (name_at m start limit)
@@ -161,34 +161,34 @@ pub ruleset exits = (stops_end, stops_zero, stops_long, stops_short, stops_other
 -- ---- names that are read
 
 -- the whole outcome, where these labels were read before and the place behind the first run may be known
-abbrev pub whole : List (List ℕ) → Option ℕ → Outcome → Outcome
+abbrev pub whole : List (List ℕ) → Option ℕ → LabelsRead → LabelsRead
 whole front next (Ok x) = Ok (front ++ x.0, unwrap_or next x.1)
 whole front next (Err fault) = Err fault
 
 -- a label moves from what is read to what was read
-pub whole-prepend_label : (front : List (List ℕ)) (next : Option ℕ) (label : List ℕ) (o : Outcome) → whole front next (prepend_label label o) ≡ whole (front ++ label ∷ []) next o
+pub whole-prepend_label : (front : List (List ℕ)) (next : Option ℕ) (label : List ℕ) (o : LabelsRead) → whole front next (prepend_label label o) ≡ whole (front ++ label ∷ []) next o
 whole-prepend_label front next label (Ok x) = ap (λ n. Ok (n, unwrap_or next x.1)) (sym (append_assoc front (label ∷ []) x.0))
 whole-prepend_label front next label (Err fault) = refl
 
 -- the first pointer says where the place behind the run is
-pub whole-at_pointer : (front : List (List ℕ)) (next : Option ℕ) (q : ℕ) (o : Outcome) → whole front next (at_pointer q o) ≡ whole front (option_or next (Some q)) o
+pub whole-at_pointer : (front : List (List ℕ)) (next : Option ℕ) (q : ℕ) (o : LabelsRead) → whole front next (at_pointer q o) ≡ whole front (option_or next (Some q)) o
 whole-at_pointer front None q (Ok x) = refl
 whole-at_pointer front None q (Err fault) = refl
 whole-at_pointer front (Some p) q (Ok x) = refl
 whole-at_pointer front (Some p) q (Err fault) = refl
 
 -- behind a pointer the place that is read last counts for nothing
-abbrev whole_given : List (List ℕ) → ℕ → Result (List (List ℕ)) DecodeError → Outcome
+abbrev whole_given : List (List ℕ) → ℕ → Result (List (List ℕ)) DecodeError → LabelsRead
 whole_given front q (Ok n) = Ok (front ++ n, q)
 whole_given front q (Err fault) = Err fault
 
-whole-given : (front : List (List ℕ)) (next : Option ℕ) (q : ℕ) (o : Outcome) → whole front (option_or next (Some q)) o ≡ whole_given front (unwrap_or next q) (labels_read o)
+whole-given : (front : List (List ℕ)) (next : Option ℕ) (q : ℕ) (o : LabelsRead) → whole front (option_or next (Some q)) o ≡ whole_given front (unwrap_or next q) (labels_read o)
 whole-given front None q (Ok x) = refl
 whole-given front None q (Err fault) = refl
 whole-given front (Some p) q (Ok x) = refl
 whole-given front (Some p) q (Err fault) = refl
 
-whole-front : (o : Outcome) → whole [] None o ≡ o
+whole-front : (o : LabelsRead) → whole [] None o ≡ o
 whole-front (Ok x) = refl
 whole-front (Err fault) = refl
 
@@ -207,16 +207,16 @@ module _ {m : List ℕ} {start limit : ℕ} {name : List (List ℕ)} {run place 
   abbrev name_size : ℕ
   name_size = length (wire name)
 
-  abbrev behind_label : Outcome
+  abbrev behind_label : LabelsRead
   behind_label = read_labels m run (place + 1 + slice_index m place) end (name_size + 1 + slice_index m place)
 
-  abbrev behind_pointer : Outcome
+  abbrev behind_pointer : LabelsRead
   behind_pointer = read_labels m (pointer_target m place) (pointer_target m place) (length m) name_size
 
   name_step : whole name next (read_octet m run place end name_size behind_label behind_pointer) ≡ name_at m start limit
   name_step = ap (whole name next) (sym (read_labels-octet m run place end name_size i.fits)) ∙ i.read
 
-  ends : (o : Outcome) → read_octet m run place end name_size behind_label behind_pointer ≡ o → whole name next o ≡ name_at m start limit
+  ends : (o : LabelsRead) → read_octet m run place end name_size behind_label behind_pointer ≡ o → whole name next o ≡ name_at m start limit
   ends o h = ap (whole name next) (sym h) ∙ name_step
 
   pub ends_end : end ≤ place → Err InsufficientBytes ≡ name_at m start limit

@@ -7,8 +7,8 @@ use Rattle.dns_wire.specs.declared.error.DecodeError.TheVariants.{InsufficientBy
 use Rattle.std.specs.List.{AllByRecursion}
 use Rattle.dns_wire.specs.Octets.{AreOctets}
 use Rattle.dns_names.specs.Names.{IsLabel, IsName, wire}
-use Rattle.dns_names.specs.Places.{Labels, NameAt, pointer_target, read_octet, prepend_label, at_pointer, labels_in_steps, read_labels, name_at}
-use Rattle.dns_names.proofs.Steps.{Outcome, labels_in_steps-step, reads_end, reads_zero, reads_long, reads_short, reads_label, reads_other, reads_half, reads_forward, reads_pointer}
+use Rattle.dns_names.specs.Places.{LabelsRead, Labels, NameAt, pointer_target, read_octet, prepend_label, at_pointer, labels_in_steps, read_labels, name_at}
+use Rattle.dns_names.proofs.Steps.{labels_in_steps-step, reads_end, reads_zero, reads_long, reads_short, reads_label, reads_other, reads_half, reads_forward, reads_pointer}
 
 -- the wire form has its zero octet
 wire_some : (n : List (List ℕ)) → 0 < length (wire n)
@@ -16,17 +16,17 @@ wire_some [] = omega arith
 wire_some (label ∷ n) = omega arith
 
 -- where an octet says no fault, it is one of three
-pub data Says (m : List ℕ) (r p e size : ℕ) (label pointer : Outcome) (x : List (List ℕ) × ℕ) : Type 0 where
+pub data Says (m : List ℕ) (r p e size : ℕ) (label pointer : LabelsRead) (x : List (List ℕ) × ℕ) : Type 0 where
   says_end : p < e → slice_index m p ≡ 0 → x ≡ ([], p + 1) → Says m r p e size label pointer x
   says_label : p < e → 0 < slice_index m p → slice_index m p < 64 → size + slice_index m p + 1 ≤ 255 → p + 1 + slice_index m p ≤ e → prepend_label (slice_range m (p + 1) (p + 1 + slice_index m p)) label ≡ Ok x → Says m r p e size label pointer x
   says_pointer : p < e → 192 ≤ slice_index m p → p + 2 ≤ e → pointer_target m p < r → at_pointer (p + 2) pointer ≡ Ok x → Says m r p e size label pointer x
 
-pub ok_is : (x y : List (List ℕ) × ℕ) → ◌≡◌ {A = Outcome} (Ok x) (Ok y) → x ≡ y
+pub ok_is : (x y : List (List ℕ) × ℕ) → ◌≡◌ {A = LabelsRead} (Ok x) (Ok y) → x ≡ y
 ok_is x y h = cc
 
-module _ (m : List ℕ) (r p e size : ℕ) (label pointer : Outcome) (x : List (List ℕ) × ℕ) (h : read_octet m r p e size label pointer ≡ Ok x) where
+module _ (m : List ℕ) (r p e size : ℕ) (label pointer : LabelsRead) (x : List (List ℕ) × ℕ) (h : read_octet m r p e size label pointer ≡ Ok x) where
   no_fault : (f : DecodeError) → read_octet m r p e size label pointer ≡ Err f → ⊥
-  no_fault f g = let both : ◌≡◌ {A = Outcome} (Ok x) (Err f) = sym h ∙ g in cc
+  no_fault f g = let both : ◌≡◌ {A = LabelsRead} (Ok x) (Err f) = sym h ∙ g in cc
 
   reads_label_octet : p < e → 0 < slice_index m p → slice_index m p < 64 → Says m r p e size label pointer x
   reads_label_octet lt some few =
@@ -65,11 +65,11 @@ module _ (m : List ℕ) (r p e size : ℕ) (label pointer : Outcome) (x : List (
       ]
 
 -- what is behind a label was read
-prepend_label_ok : (label : List ℕ) (o : Outcome) (x : List (List ℕ) × ℕ) → prepend_label label o ≡ Ok x → (y : List (List ℕ) × ℕ) × (o ≡ Ok y) × (x.0 ≡ label ∷ y.0) × (x.1 ≡ y.1)
+prepend_label_ok : (label : List ℕ) (o : LabelsRead) (x : List (List ℕ) × ℕ) → prepend_label label o ≡ Ok x → (y : List (List ℕ) × ℕ) × (o ≡ Ok y) × (x.0 ≡ label ∷ y.0) × (x.1 ≡ y.1)
 prepend_label_ok label (Ok y) x h = let e = ok_is (label ∷ y.0, y.1) x h in (y, refl, sym (ap (λ z. z.0) e), sym (ap (λ z. z.1) e))
 prepend_label_ok label (Err f) x h = absurd (cc)
 
-at_pointer_ok : (q : ℕ) (o : Outcome) (x : List (List ℕ) × ℕ) → at_pointer q o ≡ Ok x → (y : List (List ℕ) × ℕ) × (o ≡ Ok y) × (x.0 ≡ y.0) × (x.1 ≡ q)
+at_pointer_ok : (q : ℕ) (o : LabelsRead) (x : List (List ℕ) × ℕ) → at_pointer q o ≡ Ok x → (y : List (List ℕ) × ℕ) × (o ≡ Ok y) × (x.0 ≡ y.0) × (x.1 ≡ q)
 at_pointer_ok q (Ok y) x h = let e = ok_is (y.0, q) x h in (y, refl, sym (ap (λ z. z.0) e), sym (ap (λ z. z.1) e))
 at_pointer_ok q (Err f) x h = absurd (cc)
 
@@ -102,7 +102,7 @@ labels_at_sound (suc k) m r p e size n q within small h =
 pub labels_at_complete : {m : List ℕ} {r p e : ℕ} {n : List (List ℕ)} {q : ℕ} → Labels m r p e n q → (k size : ℕ) → e ≤ length m → size + length (wire n) ≤ 256 → 256 * r + 257 ≤ k + size → labels_in_steps k m r p e size ≡ Ok (n, q)
 labels_at_complete {m} {r} {p} {e} {n} {q} (Labels.root lt z n_is q_is) k size within fits enough =
     labels_in_steps-step k m r p e size (omega (arith, wire_some n)) ∙ reads_zero m r p e size _ _ lt z ∙ ap (λ x. Ok x) (λ i. (sym n_is i, sym q_is i))
-labels_at_complete {m} {r} {p} {e} {n} {q} (Labels.label {behind = behind} {n1 = n1} lt some few behind_is within_end n_is rest) k size within fits enough =
+labels_at_complete {m} {r} {p} {e} {n} {q} (Labels.label {behind = behind} {others = n1} lt some few behind_is within_end n_is rest) k size within fits enough =
     let len : length (slice_range m (p + 1) behind) ≡ slice_index m p = rw behind_is (label_len m p e (slice_index m p) within (omega arith)) in
     let longer : length (wire n) ≡ 1 + slice_index m p + length (wire n1) = ap (λ z. length (wire z)) n_is ∙ omega (arith, length-append (slice_range m (p + 1) behind) (wire n1), len) in
     let small : size + slice_index m p + 1 ≤ 255 = omega (arith, wire_some n1, longer) in
@@ -110,7 +110,7 @@ labels_at_complete {m} {r} {p} {e} {n} {q} (Labels.label {behind = behind} {n1 =
     labels_in_steps-step k m r p e size (omega (arith, wire_some n)) ∙ reads_label m r p e size _ _ lt some few small (omega arith)
     ∙ ap (λ b. prepend_label (slice_range m (p + 1) b) (labels_in_steps (k - 1) m r b e (size + 1 + slice_index m p))) (sym behind_is)
     ∙ ap (prepend_label (slice_range m (p + 1) behind)) next ∙ ap (λ z. Ok (z, q)) (sym n_is)
-labels_at_complete {m} {r} {p} {e} {n} {q} (Labels.pointer {t = t} {q1 = q1} lt high half t_is back q_is rest) k size within fits enough =
+labels_at_complete {m} {r} {p} {e} {n} {q} (Labels.pointer {target = t} {last = q1} lt high half t_is back q_is rest) k size within fits enough =
     let next : labels_in_steps (k - 1) m t t (length m) size ≡ Ok (n, q1) = labels_at_complete rest (k - 1) size (omega arith) fits (omega (arith, wire_some n)) in
     labels_in_steps-step k m r p e size (omega (arith, wire_some n)) ∙ reads_pointer m r p e size _ _ lt high half (rw (← t_is) back)
     ∙ ap (λ b. at_pointer (p + 2) (labels_in_steps (k - 1) m b b (length m) size)) (sym t_is)
@@ -152,7 +152,7 @@ octets_drop (suc k) (x ∷ m) h = octets_drop k m h.1
 -- what stands in an octet string are labels
 labels_are : {m : List ℕ} {r p e : ℕ} {n : List (List ℕ)} {q : ℕ} → AreOctets m → e ≤ length m → Labels m r p e n q → AllByRecursion IsLabel n
 labels_are {m} {r} {p} {e} {n} {q} octets within (Labels.root lt z n_is q_is) = rw n_is tt
-labels_are {m} {r} {p} {e} {n} {q} octets within (Labels.label {behind = behind} {n1 = n1} lt some few behind_is within_end n_is rest) =
+labels_are {m} {r} {p} {e} {n} {q} octets within (Labels.label {behind = behind} {others = n1} lt some few behind_is within_end n_is rest) =
     let len : length (slice_range m (p + 1) behind) ≡ slice_index m p = rw behind_is (label_len m p e (slice_index m p) within (omega arith)) in
     let first : IsLabel (slice_range m (p + 1) behind) = record { nonempty = omega (arith, len); at_most_63 = omega (arith, len); octets = octets_take (behind - (p + 1)) (drop (p + 1) m) (octets_drop (p + 1) m octets) } in
     rw n_is (first, labels_are octets within rest)
@@ -163,7 +163,7 @@ pub name_of_octets : (m : List ℕ) (p e : ℕ) (n : List (List ℕ)) (q : ℕ) 
 name_of_octets m p e n q octets h = record { each = labels_are octets h.within h.labels; at_most_255 = h.at_most_255 }
 
 -- what an octet says depends on what is read behind it only where that is read
-read_octet_alike : (m : List ℕ) (r p e size : ℕ) (l t l1 t1 : Outcome) → (0 < slice_index m p → size + slice_index m p + 1 ≤ 255 → l ≡ l1) → (pointer_target m p < r → t ≡ t1) → read_octet m r p e size l t ≡ read_octet m r p e size l1 t1
+read_octet_alike : (m : List ℕ) (r p e size : ℕ) (l t l1 t1 : LabelsRead) → (0 < slice_index m p → size + slice_index m p + 1 ≤ 255 → l ≡ l1) → (pointer_target m p < r → t ≡ t1) → read_octet m r p e size l t ≡ read_octet m r p e size l1 t1
 read_octet_alike m r p e size l t l1 t1 label pointer =
     elim (cases_lt p e) [
       | inr past ↦ reads_end m r p e size l t past ∙ sym (reads_end m r p e size l1 t1 past)

@@ -7,10 +7,7 @@ use Rattle.dns_names.proofs.NamePush.{length-wire-push}
 use Rattle.dns_wire.specs.declared.error.DecodeError.{DecodeError}
 use Rattle.dns_wire.specs.declared.error.DecodeError.TheVariants.{InsufficientBytes, NameMalformed}
 use Rattle.dns_names.specs.Names.{wire}
-use Rattle.dns_names.specs.Places.{pointer_target, read_octet, prepend_label, at_pointer, labels_in_steps, name_at}
-
-abbrev pub Outcome : Type 0
-Outcome = Result (List (List ℕ) × ℕ) DecodeError
+use Rattle.dns_names.specs.Places.{LabelsRead, pointer_target, read_octet, prepend_label, at_pointer, labels_in_steps, name_at}
 
 pub labels_in_steps-step : (k : ℕ) (m : List ℕ) (r p e size : ℕ) → 0 < k → labels_in_steps k m r p e size ≡ read_octet m r p e size (labels_in_steps (k - 1) m r (p + 1 + slice_index m p) e (size + 1 + slice_index m p)) (labels_in_steps (k - 1) m (pointer_target m p) (pointer_target m p) (length m) size)
 unfolding labels_in_steps
@@ -19,7 +16,7 @@ labels_in_steps-step (suc k) m r p e size h =
     let back : k ≡ suc k - 1 = omega arith in
     ap (λ j. read_octet m r p e size (labels_in_steps j m r (p + 1 + slice_index m p) e (size + 1 + slice_index m p)) (labels_in_steps j m (pointer_target m p) (pointer_target m p) (length m) size)) back
 
-module _ (m : List ℕ) (r p e size : ℕ) (label pointer : Outcome) where
+module _ (m : List ℕ) (r p e size : ℕ) (label pointer : LabelsRead) where
   pub reads_end : e ≤ p → read_octet m r p e size label pointer ≡ Err InsufficientBytes
   reads_end h = grind (arith, nat_tests)
 
