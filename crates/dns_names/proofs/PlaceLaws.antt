@@ -1,5 +1,5 @@
 -- What reading gives is the name that stands at the place.
-use Rattle.std.proofs.Common.{◌≡◌, ℕ, zero, suc, ◌+◌, ◌-◌, ◌*◌, ◌<◌, ◌≤◌, inl, inr, take, drop, List, [], ◌∷◌, length, slice_index, slice_range, refl, ap, sym, ◌∙◌, subst, arith, Ok, Err, length-append}
+use Rattle.std.proofs.Common.{◌≡◌, ℕ, zero, suc, ◌+◌, ◌-◌, ◌*◌, ◌<◌, ◌≤◌, inl, inr, take, drop, List, [], ◌∷◌, length, slice_index, slice_range, refl, ap, sym, ◌∙◌, subst, arith, Result, Ok, Err, length-append}
 use Rattle.std.proofs.lemmas.Bool.{cases_lt}
 use Rattle.std.proofs.lemmas.List.Edits.{length-between}
 use Rattle.dns_wire.specs.declared.error.DecodeError.{DecodeError}
@@ -7,6 +7,7 @@ use Rattle.dns_wire.specs.declared.error.DecodeError.TheVariants.{InsufficientBy
 use Rattle.std.specs.List.{AllByRecursion}
 use Rattle.dns_wire.specs.Octets.{AreOctets}
 use Rattle.dns_names.specs.Names.{IsLabel, IsName, wire}
+use Rattle.dns_names.specs.Skipping.{place_behind}
 use Rattle.dns_names.specs.Places.{LabelsRead, Labels, NameAt, pointer_target, read_octet, prepend_label, at_pointer, labels_in_steps, read_labels, name_at}
 use Rattle.dns_names.proofs.Steps.{labels_in_steps-step, reads_end, reads_zero, reads_long, reads_short, reads_label, reads_other, reads_half, reads_forward, reads_pointer}
 
@@ -137,6 +138,26 @@ pub labels_forward : {m : List ℕ} {r p e : ℕ} {n : List (List ℕ)} {q : ℕ
 labels_forward (Labels.root lt z n_is q_is) = omega arith
 labels_forward (Labels.label lt some few behind_is within_end n_is rest) = omega (arith, labels_forward rest)
 labels_forward (Labels.pointer lt high half t_is back q_is rest) = omega arith
+
+-- the name that was skipped, and where the place behind it lies
+pub record Skipped (m : List ℕ) (p e q : ℕ) : Type 0 where
+  pub name : List (List ℕ)
+  pub read : name_at m p e ≡ Ok (name, q)
+  pub forward : p < q
+  pub inside : q ≤ e
+
+pub skipped : (m : List ℕ) (p e q : ℕ) → e ≤ length m → place_behind (name_at m p e) ≡ Ok q → Skipped m p e q
+skipped m p e q within h = at (name_at m p e) refl h
+  where
+    ok_place : (q t : ℕ) → ◌≡◌ {A = Result ℕ DecodeError} (Ok q) (Ok t) → q ≡ t
+    ok_place q t e = cc
+
+    at : (o : LabelsRead) → name_at m p e ≡ o → place_behind o ≡ Ok q → Skipped m p e q
+    at (Ok x) e1 h =
+        let read : name_at m p e ≡ Ok (x.0, q) = e1 ∙ ap (λ t. Ok (x.0, t)) (ok_place x.1 q h) in
+        let stands = name_at_sound m p e x.0 q within read in
+        record { name = x.0; read = read; forward = labels_forward stands.labels; inside = labels_next stands.labels }
+    at (Err f) e1 h = absurd (cc)
 
 -- a part of an octet string is one
 octets_take : (k : ℕ) (m : List ℕ) → AreOctets m → AreOctets (take k m)

@@ -1,13 +1,8 @@
 -- One step of reading a name.
-use Rattle.std.proofs.Common.{◌≡◌, ℕ, zero, suc, ◌+◌, ◌-◌, ◌*◌, ◌<◌, ◌≤◌, List, [], ◌∷◌, ◌++◌, length, slice_index, slice_range, refl, ap, sym, ◌∙◌, append_assoc, append-nil, arith, Result, Ok, Err, Option, Some, None, unwrap_or}
+use Rattle.std.proofs.Common.{◌≡◌, ℕ, zero, suc, ◌+◌, ◌-◌, ◌<◌, ◌≤◌, List, [], length, slice_index, slice_range, ap, arith, Ok, Err}
 use Rattle.std.proofs.lemmas.Bool.Decides.{nat_tests}
-use Rattle.std.proofs.lemmas.List.Edits.{length-between}
-use Rattle.std.specs.Option.{option_or}
-use Rattle.dns_names.proofs.NamePush.{length-wire-push}
-use Rattle.dns_wire.specs.declared.error.DecodeError.{DecodeError}
 use Rattle.dns_wire.specs.declared.error.DecodeError.TheVariants.{InsufficientBytes, NameMalformed}
-use Rattle.dns_names.specs.Names.{wire}
-use Rattle.dns_names.specs.Places.{LabelsRead, pointer_target, read_octet, prepend_label, at_pointer, labels_in_steps, name_at}
+use Rattle.dns_names.specs.Places.{LabelsRead, pointer_target, read_octet, prepend_label, at_pointer, labels_in_steps}
 
 pub labels_in_steps-step : (k : ℕ) (m : List ℕ) (r p e size : ℕ) → 0 < k → labels_in_steps k m r p e size ≡ read_octet m r p e size (labels_in_steps (k - 1) m r (p + 1 + slice_index m p) e (size + 1 + slice_index m p)) (labels_in_steps (k - 1) m (pointer_target m p) (pointer_target m p) (length m) size)
 unfolding labels_in_steps

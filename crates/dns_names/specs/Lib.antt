@@ -4,3 +4,6 @@ pub mod NameWriting
 pub mod Places
 pub mod NameText
 pub mod Jumps
+pub mod JumpTables
+pub mod LabelReading
+pub mod Skipping

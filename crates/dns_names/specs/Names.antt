@@ -1,5 +1,5 @@
 -- Domain names, as lists of labels, leftmost first (RFC 1035 3.1).
-use Rattle.std.specs.Prelude.{Bool, ◌≡◌, ℕ, zero, suc, ◌<◌, ◌≤◌, ◌-◌, List, [], ◌∷◌, ◌++◌, length, replicate, map, reverse, take, drop, nat_eq, if◌then◌else◌, codes}
+use Rattle.std.specs.Prelude.{Bool, ◌≡◌, ℕ, zero, suc, ◌<◌, ◌≤◌, ◌-◌, List, [], ◌∷◌, ◌++◌, length, replicate, map, reverse, take, nat_eq, if◌then◌else◌, codes}
 use Rattle.std.specs.List.{AllByRecursion}
 use Rattle.std.specs.declared.cmp.Ordering.{Ordering}
 use Rattle.std.specs.Ordering.{nat_cmp}

@@ -93,7 +93,7 @@ fn spelled_name(text: &[u8]) -> Result<Name, NameError>
     let mut rest = text;
     'characters: while let [first, after @ ..] = rest {
         if *first == b'.' {
-            name.push_label(label.as_slice())?;
+            name.add_label(label.as_slice())?;
             label = LabelBuf::new();
             rest = after;
         } else {
@@ -109,21 +109,6 @@ fn spelled_name(text: &[u8]) -> Result<Name, NameError>
 }
 
 impl Name {
-    /// Puts a label at the end, where it is one and there is room.
-    fn push_label(&mut self, label: &[u8]) -> Result<(), NameError>
-        requires { length label.now ≤ 63 }
-        ensures { MatchResult result (λ _. add_label self.old label.now ≡ Ok self.new) (λ e. add_label self.old label.now ≡ Err e) }
-    {
-        if label.is_empty() {
-            return Err(NameError::EmptyLabel);
-        }
-        if self.len() + label.len() + 1 > 255 {
-            return Err(NameError::NameTooLong);
-        }
-        self.push(label);
-        Ok(())
-    }
-
     /// The name at the end of the text, where a dot may have stood last.
     fn finished(mut self, label: &[u8]) -> Result<Name, NameError>
         requires { length label.now ≤ 63 }
@@ -132,7 +117,7 @@ impl Name {
         if label.is_empty() && !self.is_root() {
             return Ok(self);
         }
-        self.push_label(label)?;
+        self.add_label(label)?;
         Ok(self)
     }
 

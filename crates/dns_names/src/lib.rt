@@ -5,13 +5,15 @@ mod ascii;
 mod hierarchy;
 mod jumps;
 mod label;
+mod label_reader;
 pub mod laws;
 mod lower_name;
 mod name;
 mod order;
+mod reading;
 mod text;
 
-pub use jumps::skip_name;
+pub use jumps::Jumps;
 pub use label::Label;
 pub use lower_name::LowerName;
 pub use name::{LabelIter, Name};
