@@ -4,6 +4,5 @@ pub mod NameWriting
 pub mod Places
 pub mod NameText
 pub mod Jumps
-pub mod JumpTables
 pub mod LabelReading
 pub mod Skipping

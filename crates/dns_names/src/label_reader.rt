@@ -1,7 +1,7 @@
 //! The labels of a name, read one by one where the name stands (RFC 1035 4.1.4).
 ghost use Rattle.std.specs.Prelude.{◌≤◌, length};
 
-use crate::jumps::Jumps;
+use crate::jumps::last_of_chain;
 use crate::name::has_room;
 use dns_wire::DecodeError;
 
@@ -65,7 +65,7 @@ impl<'a> LabelReader<'a> {
     /// `InsufficientBytes` where an octet is needed past the end, `NameMalformed` for a length octet of 64 to 191, for
     /// a pointer that does not lead before its run and for a wire form above 255 octets.
     #[tactic(auto, using(crate::proofs::Chains::exits))]
-    pub(crate) fn step(&mut self, jumps: &mut Jumps) -> Result<Step<'a>, DecodeError>
+    pub(crate) fn step(&mut self, jumps: &mut [u16]) -> Result<Step<'a>, DecodeError>
         requires jumps { AreJumps self.old.octets.now jumps.old }
         ensures jumps { AreJumps self.new.octets.now jumps.new }
         ensures octets { self.new.octets.now ≡ self.old.octets.now }
@@ -100,7 +100,7 @@ impl<'a> LabelReader<'a> {
                 return Err(DecodeError::NameMalformed);
             }
             self.next = self.next.or(Some(self.place + 2));
-            self.run = jumps.follow(self.octets, target);
+            self.run = last_of_chain(self.octets, target, jumps);
             self.place = self.run;
             self.end = self.octets.len();
             Ok(Step::Pointer)

@@ -13,7 +13,7 @@ mod order;
 mod reading;
 mod text;
 
-pub use jumps::Jumps;
+pub use jumps::with_jumps;
 pub use label::Label;
 pub use lower_name::LowerName;
 pub use name::{LabelIter, Name};

@@ -6,7 +6,6 @@ ghost use Rattle.dns_names.specs.Places.{NameAt, name_at};
 ghost use Rattle.dns_names.specs.Jumps.{AreJumps};
 ghost use Rattle.dns_names.specs.Skipping.{place_behind, Skips};
 
-use crate::jumps::Jumps;
 use crate::label_reader::{LabelReader, Step};
 use crate::name::Name;
 use dns_wire::{BinDecoder, DecodeError};
@@ -25,7 +24,7 @@ impl Name {
     pub fn read_with(
         decoder: &mut BinDecoder<'_>,
         end: usize,
-        jumps: &mut Jumps,
+        jumps: &mut [u16],
     ) -> Result<Name, DecodeError>
         requires ahead { place decoder.old ≤ end }
         requires inside { end ≤ length (octets decoder.old) }
@@ -53,7 +52,7 @@ impl Name {
     pub fn skip_with(
         decoder: &mut BinDecoder<'_>,
         end: usize,
-        jumps: &mut Jumps,
+        jumps: &mut [u16],
     ) -> Result<(), DecodeError>
         requires ahead { place decoder.old ≤ end }
         requires inside { end ≤ length (octets decoder.old) }
@@ -85,7 +84,7 @@ impl Name {
         ensures name { IfOk result IsName }
         ensures inside { place decoder.new ≤ end }
     {
-        Name::read_with(decoder, end, &mut Jumps::none())
+        Name::read_with(decoder, end, &mut [])
     }
 
     /// Reads the name at the decoder's place, as `read_within` up to the end of the octets.
@@ -115,7 +114,7 @@ fn read_at(
     octets: &[u8],
     place: usize,
     end: usize,
-    jumps: &mut Jumps,
+    jumps: &mut [u16],
 ) -> Result<(Name, usize), DecodeError>
     requires inside { end ≤ length octets.now }
     requires jumps { AreJumps octets.now jumps.old }
@@ -135,7 +134,7 @@ fn read_at(
 
 /// The place behind the name at `place`, whose first run ends at or before `end`.
 #[tactic(auto, using(crate::proofs::Chains::skipping))]
-fn skip_at(octets: &[u8], place: usize, end: usize, jumps: &mut Jumps) -> Result<usize, DecodeError>
+fn skip_at(octets: &[u8], place: usize, end: usize, jumps: &mut [u16]) -> Result<usize, DecodeError>
     requires inside { end ≤ length octets.now }
     requires jumps { AreJumps octets.now jumps.old }
     ensures value { result ≡ place_behind (name_at octets.now place end) }

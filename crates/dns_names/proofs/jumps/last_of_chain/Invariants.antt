@@ -1,10 +1,10 @@
 use Rattle.std.proofs.Common.{◌≤◌}
 use Rattle.dns_names.specs.Jumps.{LeadsTo, AreJumps}
-use Rattle.dns_names.proofs.jumps.Jumps.follow.Given as goal
+use Rattle.dns_names.proofs.jumps.last_of_chain.Given as goal
 
 abbrev pub invariant-loop-place : goal.invariant-loop-place
 invariant-loop-place l = record {
-  jumps : AreJumps l.octets l.self;
+  jumps : AreJumps l.octets l.jumps;
   leads : l.last ≤ l.place → LeadsTo l.octets l.place l.last;
   reached : l.place ≤ l.first;
 }
