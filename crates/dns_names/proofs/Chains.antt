@@ -8,7 +8,7 @@ use Rattle.dns_wire.specs.declared.error.DecodeError.TheVariants.{InsufficientBy
 use Rattle.dns_names.specs.Places.{LabelsRead, pointer_target, read_octet, prepend_label, at_pointer, read_labels, name_at}
 use Rattle.dns_names.specs.Jumps.{labels_read, LeadsTo, AreJumps}
 use Rattle.dns_names.specs.LabelReading.{with_next}
-use Rattle.dns_names.specs.Skipping.{place_behind}
+use Rattle.dns_names.specs.Skipping.{without_value}
 use Rattle.dns_names.proofs.Steps.{reads_end, reads_zero, reads_long, reads_short, reads_label, reads_other, reads_half, reads_forward, reads_pointer}
 use Rattle.dns_names.proofs.NamePush.{length-wire-push}
 use Rattle.dns_names.proofs.PlaceLaws.{read_labels-octet}
@@ -161,10 +161,10 @@ pub whole-none : (o : LabelsRead) → whole [] o ≡ o
 whole-none (Ok x) = refl
 whole-none (Err fault) = refl
 
-pub place_behind-prepend_label : (label : List ℕ) (o : LabelsRead) → place_behind (prepend_label label o) ≡ place_behind o
-place_behind-prepend_label label (Ok x) = refl
-place_behind-prepend_label label (Err fault) = refl
+pub without_value-prepend_label : (label : List ℕ) (o : LabelsRead) → without_value (prepend_label label o) ≡ without_value o
+without_value-prepend_label label (Ok x) = refl
+without_value-prepend_label label (Err fault) = refl
 
 pub ruleset reading = (whole-prepend_label, whole-none, append-nil, length-wire-push)
 
-pub ruleset skipping = (place_behind-prepend_label)
+pub ruleset skipping = (without_value-prepend_label)

@@ -7,7 +7,7 @@ use Rattle.dns_wire.specs.declared.error.DecodeError.TheVariants.{InsufficientBy
 use Rattle.std.specs.List.{AllByRecursion}
 use Rattle.dns_wire.specs.Octets.{AreOctets}
 use Rattle.dns_names.specs.Names.{IsLabel, IsName, wire}
-use Rattle.dns_names.specs.Skipping.{place_behind}
+use Rattle.dns_names.specs.Skipping.{without_value}
 use Rattle.dns_names.specs.Places.{LabelsRead, Labels, NameAt, pointer_target, read_octet, prepend_label, at_pointer, labels_in_steps, read_labels, name_at}
 use Rattle.dns_names.proofs.Steps.{labels_in_steps-step, reads_end, reads_zero, reads_long, reads_short, reads_label, reads_other, reads_half, reads_forward, reads_pointer}
 
@@ -142,22 +142,29 @@ labels_forward (Labels.pointer lt high half t_is back q_is rest) = omega arith
 -- the name that was skipped, and where the place behind it lies
 pub record Skipped (m : List ℕ) (p e q : ℕ) : Type 0 where
   pub name : List (List ℕ)
-  pub read : name_at m p e ≡ Ok (name, q)
+  pub stands : NameAt m p e name q
   pub forward : p < q
   pub inside : q ≤ e
 
-pub skipped : (m : List ℕ) (p e q : ℕ) → e ≤ length m → place_behind (name_at m p e) ≡ Ok q → Skipped m p e q
+pub skipped : (m : List ℕ) (p e q : ℕ) → e ≤ length m → without_value (name_at m p e) ≡ Ok (tt, q) → Skipped m p e q
 skipped m p e q within h = at (name_at m p e) refl h
   where
-    ok_place : (q t : ℕ) → ◌≡◌ {A = Result ℕ DecodeError} (Ok q) (Ok t) → q ≡ t
-    ok_place q t e = cc
+    place_or_0 : Result (Unit {0} × ℕ) DecodeError → ℕ
+    place_or_0 (Ok x) = x.1
+    place_or_0 (Err f) = 0
 
-    at : (o : LabelsRead) → name_at m p e ≡ o → place_behind o ≡ Ok q → Skipped m p e q
+    at : (o : LabelsRead) → name_at m p e ≡ o → without_value o ≡ Ok (tt, q) → Skipped m p e q
     at (Ok x) e1 h =
-        let read : name_at m p e ≡ Ok (x.0, q) = e1 ∙ ap (λ t. Ok (x.0, t)) (ok_place x.1 q h) in
+        let read : name_at m p e ≡ Ok (x.0, q) = e1 ∙ ap (λ t. Ok (x.0, t)) (ap place_or_0 h) in
         let stands = name_at_sound m p e x.0 q within read in
-        record { name = x.0; read = read; forward = labels_forward stands.labels; inside = labels_next stands.labels }
+        record { name = x.0; stands = stands; forward = labels_forward stands.labels; inside = labels_next stands.labels }
     at (Err f) e1 h = absurd (cc)
+
+-- one name stands at a place, and one place is behind it
+pub name_at_one : (m : List ℕ) (p e : ℕ) (n z : List (List ℕ)) (q t : ℕ) → NameAt m p e n q → NameAt m p e z t → (n ≡ z) × (q ≡ t)
+name_at_one m p e n z q t a b =
+    let same = ok_is (n, q) (z, t) (sym (name_at_complete m p e n q a) ∙ name_at_complete m p e z t b) in
+    (ap (λ x. x.0) same, ap (λ x. x.1) same)
 
 -- a part of an octet string is one
 octets_take : (k : ℕ) (m : List ℕ) → AreOctets m → AreOctets (take k m)

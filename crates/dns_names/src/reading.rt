@@ -1,10 +1,10 @@
 //! Names read where they stand (RFC 1035 4.1.4).
-ghost use Rattle.std.specs.Prelude.{◌≡◌, ℕ, ◌≤◌, List, length, IfOk, OnOk, Ok};
-ghost use Rattle.dns_wire.specs.Reading.{octets, place, Reads};
+ghost use Rattle.std.specs.Prelude.{◌≡◌, ℕ, ◌≤◌, List, length, IsOk, IfOk, OnOk, Ok};
+ghost use Rattle.dns_wire.specs.Reading.{octets, place, Gives, Reads};
 ghost use Rattle.dns_names.specs.Names.{IsName};
 ghost use Rattle.dns_names.specs.Places.{NameAt, name_at};
 ghost use Rattle.dns_names.specs.Jumps.{AreJumps};
-ghost use Rattle.dns_names.specs.Skipping.{place_behind, Skips};
+ghost use Rattle.dns_names.specs.Skipping.{without_value};
 
 use crate::label_reader::{LabelReader, Step};
 use crate::name::Name;
@@ -32,7 +32,8 @@ impl Name {
         ensures found { IfOk result (λ n. NameAt (octets decoder.old) (place decoder.old) end n (place decoder.new)) }
         ensures only { (n : List (List ℕ)) (next : ℕ) → NameAt (octets decoder.old) (place decoder.old) end n next
             → (result ≡ Ok n) × (place decoder.new ≡ next) }
-        ensures exact { Reads (λ n. n) result decoder.old decoder.new (name_at (octets decoder.old) (place decoder.old) end) }
+        ensures exact { Reads (λ n. n) result decoder.old decoder.new
+            (name_at (octets decoder.old) (place decoder.old) end) }
         ensures name { IfOk result IsName }
         ensures jumps { AreJumps (octets decoder.old) jumps.new }
         ensures inside { place decoder.new ≤ end }
@@ -57,7 +58,12 @@ impl Name {
         requires ahead { place decoder.old ≤ end }
         requires inside { end ≤ length (octets decoder.old) }
         requires jumps { AreJumps (octets decoder.old) jumps.old }
-        ensures exact { Skips result decoder.old decoder.new (name_at (octets decoder.old) (place decoder.old) end) }
+        ensures found { OnOk result
+            ((n : List (List ℕ)) × NameAt (octets decoder.old) (place decoder.old) end n (place decoder.new)) }
+        ensures only { (n : List (List ℕ)) (next : ℕ) → NameAt (octets decoder.old) (place decoder.old) end n next
+            → IsOk result × (place decoder.new ≡ next) }
+        ensures exact { Reads (λ x. x) result decoder.old decoder.new
+            (without_value (name_at (octets decoder.old) (place decoder.old) end)) }
         ensures jumps { AreJumps (octets decoder.old) jumps.new }
         ensures inside { place decoder.new ≤ end }
     {
@@ -80,7 +86,8 @@ impl Name {
         ensures found { IfOk result (λ n. NameAt (octets decoder.old) (place decoder.old) end n (place decoder.new)) }
         ensures only { (n : List (List ℕ)) (next : ℕ) → NameAt (octets decoder.old) (place decoder.old) end n next
             → (result ≡ Ok n) × (place decoder.new ≡ next) }
-        ensures exact { Reads (λ n. n) result decoder.old decoder.new (name_at (octets decoder.old) (place decoder.old) end) }
+        ensures exact { Reads (λ n. n) result decoder.old decoder.new
+            (name_at (octets decoder.old) (place decoder.old) end) }
         ensures name { IfOk result IsName }
         ensures inside { place decoder.new ≤ end }
     {
@@ -137,7 +144,7 @@ fn read_at(
 fn skip_at(octets: &[u8], place: usize, end: usize, jumps: &mut [u16]) -> Result<usize, DecodeError>
     requires inside { end ≤ length octets.now }
     requires jumps { AreJumps octets.now jumps.old }
-    ensures value { result ≡ place_behind (name_at octets.now place end) }
+    ensures value { Gives (λ next. (tt, next)) result (without_value (name_at octets.now place end)) }
     ensures jumps { AreJumps octets.now jumps.new }
 {
     let mut reader = LabelReader::new(octets, place, end);
