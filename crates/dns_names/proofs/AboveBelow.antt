@@ -1,8 +1,12 @@
 -- Names above and below other names.
-use Rattle.std.proofs.Common.{true, ◌≡◌, ℕ, zero, suc, ◌+◌, ◌-◌, ◌<◌, ◌≤◌, List, [], ◌∷◌, ◌++◌, length, take, drop, replicate, sym, ap, subst, ◌∙◌, length-append, arith}
+use Rattle.std.proofs.Common.{true, false, Bool, cond, nat_eq, nat_lt, Result, Ok, Err, refl, ◌≡◌, ℕ, zero, suc, ◌+◌, ◌-◌, ◌<◌, ◌≤◌, List, [], ◌∷◌, ◌++◌, length, take, drop, replicate, sym, ap, subst, ◌∙◌, length-append, arith}
 use Rattle.std.proofs.lemmas.List.{drop_at, drop-map, drop-replicate, length-map, take-append-drop}
 use Rattle.std.specs.List.{AllByRecursion}
+use Rattle.std.proofs.lemmas.Bool.Decides.{nat_tests}
+use Rattle.dns_wire.specs.declared.error.NameError.{NameError}
+use Rattle.dns_wire.specs.declared.error.NameError.TheVariants.{EmptyLabel, NameTooLong}
 use Rattle.dns_wire.specs.Octets.{lowered}
+use Rattle.dns_names.specs.NameText.{add_label}
 use Rattle.dns_names.specs.Names.{IsName, IsLabel, Under, low, padded, same, wire}
 use Rattle.dns_names.specs.NameLaws.{length_lt-wire, same_decides}
 
@@ -44,16 +48,26 @@ front_fits : (front : List (List ℕ)) (label : List ℕ) (rest : List (List ℕ
 front_fits [] label rest = omega (arith, length-append label (wire rest), length_lt-wire rest)
 front_fits (x ∷ front) label rest = omega (arith, front_fits front label rest, length-append x (wire front), length-append x (wire (front ++ label ∷ rest)))
 
--- what is known of the next label, while the labels of a name are put together
-pub record NextFits (shown : List (List ℕ)) (label : List ℕ) : Type 0 where
-  pub nonempty : 0 < length label
-  pub at_most_63 : length label ≤ 63
-  pub at_most_255 : length (wire shown) + length label + 1 ≤ 255
+-- the next label, while the labels of a name are put together
+pub next_label : (shown : List (List ℕ)) (label : List ℕ) (rest whole : List (List ℕ)) → AllByRecursion IsLabel whole → shown ++ label ∷ rest ≡ whole → IsLabel label
+next_label shown label rest whole each joined = in_middle shown label rest (subst (AllByRecursion IsLabel) (sym joined) each)
 
-pub next_fits : (n shown rest : List (List ℕ)) (label : List ℕ) → IsName n → shown ++ label ∷ rest ≡ n → NextFits shown label
-next_fits n shown rest label h joined =
-    let is : IsLabel label = in_middle shown label rest (subst (AllByRecursion IsLabel) (sym joined) h.each) in
-    record { nonempty = is.nonempty; at_most_63 = is.at_most_63; at_most_255 = omega (arith, front_fits shown label rest, ap (λ z. length (wire z)) joined, h.at_most_255) }
+-- a label that was added stands last
+pub added : (n z : List (List ℕ)) (label : List ℕ) → add_label n label ≡ Ok z → z ≡ n ++ label ∷ []
+added n z label h = at (nat_eq (length label) 0) (nat_lt 255 (length (wire n) + length label + 1)) h
+  where
+    at : (none long : Bool) → cond none (Err EmptyLabel) (cond {A = Result (List (List ℕ)) NameError} long (Err NameTooLong) (Ok (n ++ label ∷ []))) ≡ Ok z → z ≡ n ++ label ∷ []
+    at true long e = absurd (cc)
+    at false true e = absurd (cc)
+    at false false e = cc
 
-pub name_with : (n : List (List ℕ)) (label : List ℕ) → IsName n → IsLabel label → length (wire n) + length label + 1 ≤ 255 → IsName (label ∷ n)
-name_with n label h is fits = record { each = (is, h.each); at_most_255 = omega (arith, fits, length-append label (wire n)) }
+-- a label that did not fit, and what begins with it and the labels before
+pub too_long : (shown : List (List ℕ)) (label : List ℕ) (rest whole : List (List ℕ)) (e : NameError) → IsLabel label → shown ++ label ∷ rest ≡ whole → add_label shown label ≡ Err e → (e ≡ NameTooLong) × (255 < length (wire whole))
+too_long shown label rest whole e is joined h = at (nat_eq (length label) 0) (nat_lt 255 (length (wire shown) + length label + 1)) refl refl h
+  where
+    at : (none long : Bool) → nat_eq (length label) 0 ≡ none → nat_lt 255 (length (wire shown) + length label + 1) ≡ long → cond none (Err EmptyLabel) (cond {A = Result (List (List ℕ)) NameError} long (Err NameTooLong) (Ok (shown ++ label ∷ []))) ≡ Err e → (e ≡ NameTooLong) × (255 < length (wire whole))
+    at true long none is_long g = absurd (grind (arith, nat_tests, is.nonempty))
+    at false false none is_long g = absurd (cc)
+    at false true none is_long g =
+        let above : 255 < length (wire shown) + length label + 1 = grind (arith, nat_tests) in
+        (cc, omega (arith, above, front_fits shown label rest, ap (λ z. length (wire z)) joined))

@@ -1,5 +1,5 @@
 pub mod Chains
-pub mod Pushed
+pub mod NamePush
 pub mod Steps
 pub mod PlaceLaws
 pub mod Written

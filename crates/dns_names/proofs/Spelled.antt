@@ -6,7 +6,7 @@ use Rattle.std.proofs.lemmas.List.{nil_from_length}
 use Rattle.std.specs.Char.{is_ascii_digit, is_ascii_graphic}
 use Rattle.dns_wire.specs.declared.error.NameError.{NameError}
 use Rattle.dns_wire.specs.declared.error.NameError.TheVariants.{LabelTooLong, BadEscape, BadCharacter}
-use Rattle.dns_names.specs.NameText.{labels_of, with_label, with_octet, first_octet, octet_of_digits, escaped, at_end}
+use Rattle.dns_names.specs.NameText.{labels_of, add_label, add_octet, first_octet, octet_of_digits, escaped, at_end}
 use Rattle.dns_wire.specs.Reading.{◌>>=◌}
 
 -- the labels n and the front of a label were read, and this text is left
@@ -25,12 +25,12 @@ pair_is x y e = cc
 abbrev Outcome : Type 0
 Outcome = Result (List (List ℕ)) NameError
 
-pub labels_of-step : (k : ℕ) (n : List (List ℕ)) (label : List ℕ) (c : ℕ) (rest : List ℕ) → 0 < k → labels_of k n label (c ∷ rest) ≡ cond (nat_eq c 46) (with_label n label >>= (λ longer. labels_of (k - 1) longer [] rest)) (first_octet c rest >>= (λ x. with_octet label x.0 >>= (λ longer. labels_of (k - 1) n longer x.1)))
+pub labels_of-step : (k : ℕ) (n : List (List ℕ)) (label : List ℕ) (c : ℕ) (rest : List ℕ) → 0 < k → labels_of k n label (c ∷ rest) ≡ cond (nat_eq c 46) (add_label n label >>= (λ longer. labels_of (k - 1) longer [] rest)) (first_octet c rest >>= (λ x. add_octet label x.0 >>= (λ longer. labels_of (k - 1) n longer x.1)))
 unfolding labels_of
 labels_of-step zero n label c rest h = absurd (omega arith)
 labels_of-step (suc k) n label c rest h =
     let back : k ≡ suc k - 1 = omega arith in
-    ap (λ j. cond (nat_eq c 46) (with_label n label >>= (λ longer. labels_of j longer [] rest)) (first_octet c rest >>= (λ x. with_octet label x.0 >>= (λ longer. labels_of j n longer x.1)))) back
+    ap (λ j. cond (nat_eq c 46) (add_label n label >>= (λ longer. labels_of j longer [] rest)) (first_octet c rest >>= (λ x. add_octet label x.0 >>= (λ longer. labels_of j n longer x.1)))) back
 
 pub labels_of-end : (k : ℕ) (n : List (List ℕ)) (label : List ℕ) → labels_of k n label [] ≡ at_end n label
 unfolding labels_of
@@ -44,18 +44,18 @@ pub choice_false : {X : Type 0} (c d : ℕ) (x y : X) → c ≢ d → cond (nat_
 choice_false c d x y e = grind (arith, nat_tests)
 
 module _ {text : List ℕ} {n : List (List ℕ)} {label : List ℕ} {c : ℕ} {rest : List ℕ} (i : Spelling text n label (c ∷ rest)) where
-  at_dot : c ≡ 46 → (with_label n label >>= (λ longer. labels_of (i.steps - 1) longer [] rest)) ≡ labels_of (length text) [] [] text
+  at_dot : c ≡ 46 → (add_label n label >>= (λ longer. labels_of (i.steps - 1) longer [] rest)) ≡ labels_of (length text) [] [] text
   at_dot e = sym (choice_true c 46 _ _ e) ∙ sym (labels_of-step i.steps n label c rest (omega (arith, i.enough))) ∙ i.read
 
-  at_octet : c ≢ 46 → (first_octet c rest >>= (λ x. with_octet label x.0 >>= (λ longer. labels_of (i.steps - 1) n longer x.1))) ≡ labels_of (length text) [] [] text
+  at_octet : c ≢ 46 → (first_octet c rest >>= (λ x. add_octet label x.0 >>= (λ longer. labels_of (i.steps - 1) n longer x.1))) ≡ labels_of (length text) [] [] text
   at_octet e = sym (choice_false c 46 _ _ e) ∙ sym (labels_of-step i.steps n label c rest (omega (arith, i.enough))) ∙ i.read
 
   -- a label that doesn't fit
-  pub dot_stops : (e : NameError) → c ≡ 46 → with_label n label ≡ Err e → Err e ≡ labels_of (length text) [] [] text
+  pub dot_stops : (e : NameError) → c ≡ 46 → add_label n label ≡ Err e → Err e ≡ labels_of (length text) [] [] text
   dot_stops e is h = ap (λ o. o >>= (λ longer. labels_of (i.steps - 1) longer [] rest)) (sym h) ∙ at_dot is
 
   -- behind a label
-  pub dot_on : (longer : List (List ℕ)) → c ≡ 46 → with_label n label ≡ Ok longer → Spelling text longer [] rest
+  pub dot_on : (longer : List (List ℕ)) → c ≡ 46 → add_label n label ≡ Ok longer → Spelling text longer [] rest
   dot_on longer is h = record {
     steps = i.steps - 1;
     enough = omega (arith, i.enough);
@@ -65,22 +65,22 @@ module _ {text : List ℕ} {n : List (List ℕ)} {label : List ℕ} {c : ℕ} {r
 
   -- a character that is none
   pub octet_stops : (e : NameError) → c ≢ 46 → first_octet c rest ≡ Err e → Err e ≡ labels_of (length text) [] [] text
-  octet_stops e is h = ap (λ o. o >>= (λ x. with_octet label x.0 >>= (λ longer. labels_of (i.steps - 1) n longer x.1))) (sym h) ∙ at_octet is
+  octet_stops e is h = ap (λ o. o >>= (λ x. add_octet label x.0 >>= (λ longer. labels_of (i.steps - 1) n longer x.1))) (sym h) ∙ at_octet is
 
   -- an octet that the label has no room for, and one that it has
   pub long_stops : (octet : ℕ) (behind : List ℕ) → c ≢ 46 → first_octet c rest ≡ Ok (octet, behind) → length label ≡ 63 → ◌≡◌ {A = Outcome} (Err LabelTooLong) (labels_of (length text) [] [] text)
   long_stops octet behind is h full =
-      let no : with_octet label octet ≡ Err LabelTooLong = grind (arith, nat_tests) in
-      ap (λ o. o >>= (λ longer. labels_of (i.steps - 1) n longer behind)) (sym no) ∙ ap (λ o. o >>= (λ x. with_octet label x.0 >>= (λ longer. labels_of (i.steps - 1) n longer x.1))) (sym h) ∙ at_octet is
+      let no : add_octet label octet ≡ Err LabelTooLong = grind (arith, nat_tests) in
+      ap (λ o. o >>= (λ longer. labels_of (i.steps - 1) n longer behind)) (sym no) ∙ ap (λ o. o >>= (λ x. add_octet label x.0 >>= (λ longer. labels_of (i.steps - 1) n longer x.1))) (sym h) ∙ at_octet is
 
   pub octet_on : (octet : ℕ) (behind : List ℕ) → c ≢ 46 → first_octet c rest ≡ Ok (octet, behind) → length behind ≤ length rest → length label < 63 → Spelling text n (label ++ octet ∷ []) behind
   octet_on octet behind is h shorter room =
-      let yes : with_octet label octet ≡ Ok (label ++ octet ∷ []) = grind (arith, nat_tests) in
+      let yes : add_octet label octet ≡ Ok (label ++ octet ∷ []) = grind (arith, nat_tests) in
       record {
         steps = i.steps - 1;
         enough = omega (arith, i.enough);
         few = omega (arith, length-append label (octet ∷ []));
-        read = ap (λ o. o >>= (λ longer. labels_of (i.steps - 1) n longer behind)) (sym yes) ∙ ap (λ o. o >>= (λ x. with_octet label x.0 >>= (λ longer. labels_of (i.steps - 1) n longer x.1))) (sym h) ∙ at_octet is;
+        read = ap (λ o. o >>= (λ longer. labels_of (i.steps - 1) n longer behind)) (sym yes) ∙ ap (λ o. o >>= (λ x. add_octet label x.0 >>= (λ longer. labels_of (i.steps - 1) n longer x.1))) (sym h) ∙ at_octet is;
       }
 
 -- the text behind an octet is no longer
@@ -124,9 +124,9 @@ pub at_end_dotted : (n : List (List ℕ)) (label : List ℕ) → length label �
 at_end_dotted [] label e some = absurd (some refl)
 at_end_dotted (l ∷ n) label e some = chosen e
   where
-    chosen : length label ≡ 0 → cond (nat_eq (length label) 0 && nat_lt 0 (suc (length n))) (Ok (l ∷ n)) (with_label (l ∷ n) label) ≡ Ok (l ∷ n)
+    chosen : length label ≡ 0 → cond (nat_eq (length label) 0 && nat_lt 0 (suc (length n))) (Ok (l ∷ n)) (add_label (l ∷ n) label) ≡ Ok (l ∷ n)
     chosen e = grind (arith, nat_tests)
 
-pub at_end_label : (n : List (List ℕ)) (label : List ℕ) → (length label ≢ 0) ⊎ (n ≡ []) → at_end n label ≡ with_label n label
+pub at_end_label : (n : List (List ℕ)) (label : List ℕ) → (length label ≢ 0) ⊎ (n ≡ []) → at_end n label ≡ add_label n label
 at_end_label n label (inl some) = grind (arith, nat_tests)
 at_end_label n label (inr none) = let e : length n ≡ 0 = ap length none in grind (arith, nat_tests)

@@ -9,9 +9,9 @@ use Rattle.std.proofs.lemmas.Bool.Decides.{nat_tests}
 use Rattle.dns_wire.specs.Octets.{AreOctets}
 use Rattle.dns_names.specs.Names.{IsLabel, IsName, wire}
 use Rattle.dns_wire.specs.Reading.{◌>>=◌}
-use Rattle.dns_names.specs.NameText.{dot, backslash, specials, is_special, octet_text, label_text, name_text, first_octet, with_octet, with_label, labels_of, name_of}
+use Rattle.dns_names.specs.NameText.{dot, backslash, specials, is_special, octet_text, label_text, name_text, first_octet, add_octet, add_label, labels_of, name_from_text}
 use Rattle.dns_names.proofs.Spelled.{labels_of-step, labels_of-end, choice_false, at_end_dotted}
-use Rattle.dns_names.proofs.Pushed.{length-wire-push}
+use Rattle.dns_names.proofs.NamePush.{length-wire-push}
 
 -- what the text of an octet is made of: it begins with no dot, and is read as the octet
 record Spells (x : ℕ) : Type 0 where
@@ -101,14 +101,14 @@ octet_back x rest k n label small room enough =
     let s = spells x small in
     let text : octet_text x ++ rest ≡ s.first ∷ (s.others ++ rest) = ap (λ t. t ++ rest) s.text in
     let long : length (s.first ∷ (s.others ++ rest)) ≤ k = omega (arith, enough, ap length text) in
-    let fits : with_octet label x ≡ Ok (label ++ x ∷ []) = grind (arith, nat_tests) in
+    let fits : add_octet label x ≡ Ok (label ++ x ∷ []) = grind (arith, nat_tests) in
     record {
       steps = k - 1;
       enough = omega (arith, long, length-append s.others rest);
       same = ap (labels_of k n label) text
           ∙ labels_of-step k n label s.first (s.others ++ rest) (omega (arith, long))
           ∙ choice_false s.first dot _ _ s.no_dot
-          ∙ ap (λ o. o >>= (λ x. with_octet label x.0 >>= (λ longer. labels_of (k - 1) n longer x.1))) (s.read rest)
+          ∙ ap (λ o. o >>= (λ x. add_octet label x.0 >>= (λ longer. labels_of (k - 1) n longer x.1))) (s.read rest)
           ∙ ap (λ o. o >>= (λ longer. labels_of (k - 1) n longer rest)) fits;
     }
 
@@ -140,7 +140,7 @@ label_back label rest k n is fits enough =
     let text : label_text label ++ rest ≡ flat_map octet_text label ++ (dot ∷ rest) = append_assoc (flat_map octet_text label) (dot ∷ []) rest in
     let octets = octets_back label (dot ∷ rest) k n [] is.octets (let h = is.at_most_63 in omega arith) (omega (arith, enough, ap length text)) in
     let some : nat_eq (length label) 0 ≡ false = let h = is.nonempty in grind (arith, nat_tests) in
-    let small : with_label n label ≡ Ok (n ++ label ∷ []) = grind (arith, nat_tests) in
+    let small : add_label n label ≡ Ok (n ++ label ∷ []) = grind (arith, nat_tests) in
     record {
       steps = octets.steps - 1;
       enough = omega (arith, octets.enough);
@@ -160,7 +160,7 @@ labels_back (label ∷ z) k n each fits some enough =
     ∙ ap (λ z. Ok z) (append_assoc n (label ∷ []) z)
 
 -- a text of two characters or more is read from its front
-name_of_long : (text : List ℕ) → 2 ≤ length text → name_of text ≡ labels_of (length text) [] [] text
+name_of_long : (text : List ℕ) → 2 ≤ length text → name_from_text text ≡ labels_of (length text) [] [] text
 name_of_long [] h = absurd (omega arith)
 name_of_long (c ∷ []) h = absurd (omega arith)
 name_of_long (c ∷ d ∷ rest) h = refl
@@ -173,7 +173,7 @@ label_long (x ∷ xs) is =
     omega (arith, ap length s.text, length-append (octet_text x) (flat_map octet_text xs), length-append (flat_map octet_text (x ∷ xs)) (dot ∷ []))
 
 -- the text of a name is read as the name
-pub name_back : (n : List (List ℕ)) → IsName n → name_of (name_text n) ≡ Ok n
+pub name_back : (n : List (List ℕ)) → IsName n → name_from_text (name_text n) ≡ Ok n
 name_back [] name = refl
 name_back (label ∷ z) name =
     let text : List ℕ = label_text label ++ flat_map label_text z in

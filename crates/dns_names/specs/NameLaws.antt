@@ -10,32 +10,33 @@ use Rattle.std.specs.Ordering.{nat_cmp, eq_by_cmp}
 use Rattle.std.specs.Cmp.{IsTotalOrder, on_total, nat_cmp_total, unsigned_ties}
 use Rattle.std.specs.Cmp.Lexicographic.{pointwise, pointwise_decides, bytes_decides, slice_cmp, lists_total, lists_ties}
 use Rattle.dns_wire.specs.Octets.{lower, lowered, AreOctets}
-use Rattle.dns_names.specs.Names.{IsLabel, HoldsLabel, IsName, HoldsName, IsWire, padded, wire, low, same, name_cmp, labels_up_to, labels_in}
+use Rattle.dns_names.specs.Names.{IsLabel, HoldsLabel, IsName, HoldsName, IsWire, padded, wire, low, same, name_cmp, labels_behind, labels_of_wire}
+
+-- behind the octets of a label
+labels_behind_label : (label tail : List ℕ) → labels_behind (length label) (label ++ tail) ≡ labels_of_wire tail
+labels_behind_label [] tail = refl
+labels_behind_label (x ∷ label) tail = labels_behind_label label tail
 
 -- the first label, behind its length
-pub labels_up_to_label : (k most : ℕ) (label tail : List ℕ) → length label ≡ k → 0 < k → labels_up_to (suc most) (k ∷ (label ++ tail)) ≡ label ∷ labels_up_to most tail
-labels_up_to_label zero most label tail e h = absurd (omega arith)
-labels_up_to_label (suc k) most label tail e h = rw (take_at label tail (suc k) e, drop_at label tail (suc k) e) refl
-
--- the labels of a wire form, whatever follows it
-pub labels_up_to-wire : (n : List (List ℕ)) (most : ℕ) (rest : List ℕ) → AllByRecursion IsLabel n → length n < most → labels_up_to most (wire n ++ rest) ≡ n
-labels_up_to-wire [] zero rest h l = absurd (omega arith)
-labels_up_to-wire [] (suc most) rest h l = refl
-labels_up_to-wire (label ∷ n) zero rest h l = absurd (omega arith)
-labels_up_to-wire (label ∷ n) (suc most) rest h l =
-    let shorter : length n < most = omega arith in
-    ap (λ t. labels_up_to (suc most) (length label ∷ t)) (append_assoc label (wire n) rest) ∙ labels_up_to_label (length label) most label (wire n ++ rest) refl h.0.nonempty ∙ ap (λ t. label ∷ t) (labels_up_to-wire n most rest h.1 shorter)
+first_label : (label tail : List ℕ) → 0 < length label → labels_of_wire (length label ∷ (label ++ tail)) ≡ label ∷ labels_of_wire tail
+first_label [] tail h = absurd (omega arith)
+first_label (x ∷ label) tail h = λ i. take_at (x ∷ label) tail (length (x ∷ label)) refl i ∷ labels_behind_label label tail i
 
 pub length_lt-wire : (n : List (List ℕ)) → length n < length (wire n)
 length_lt-wire [] = omega arith
 length_lt-wire (label ∷ n) = omega (arith, length_lt-wire n, length-append label (wire n))
 
-pub labels_in-wire : (n : List (List ℕ)) (rest : List ℕ) → AllByRecursion IsLabel n → labels_in (wire n ++ rest) ≡ n
-labels_in-wire n rest h = labels_up_to-wire n (length (wire n ++ rest)) rest h (omega (arith, length_lt-wire n, length-append (wire n) rest))
+-- the labels of a wire form, whatever follows it
+pub labels_of_wire-wire : (n : List (List ℕ)) (rest : List ℕ) → AllByRecursion IsLabel n → labels_of_wire (wire n ++ rest) ≡ n
+labels_of_wire-wire [] rest h = refl
+labels_of_wire-wire (label ∷ n) rest h =
+    ap (λ t. labels_of_wire (length label ∷ t)) (append_assoc label (wire n) rest)
+    ∙ first_label label (wire n ++ rest) h.0.nonempty
+    ∙ ap (λ t. label ∷ t) (labels_of_wire-wire n rest h.1)
 
 -- two names with one wire form are one
 pub same_from_wire : (n z : List (List ℕ)) (s t : List ℕ) → AllByRecursion IsLabel n → AllByRecursion IsLabel z → wire n ++ s ≡ wire z ++ t → n ≡ z
-same_from_wire n z s t h g e = sym (labels_in-wire n s h) ∙ ap labels_in e ∙ labels_in-wire z t g
+same_from_wire n z s t h g e = sym (labels_of_wire-wire n s h) ∙ ap labels_of_wire e ∙ labels_of_wire-wire z t g
 
 -- a number below 65 is no letter
 lower_few : (k : ℕ) → k ≤ 63 → lower k ≡ k
@@ -71,13 +72,13 @@ same_ties n z =
     ∙ lists_ties (slice_cmp nat_cmp) (lists_ties nat_cmp unsigned_ties) (reverse (low n)) (reverse (low z))
 
 -- the labels of a name as it lies in memory
-pub labels_in-padded : (n : List (List ℕ)) (octets : List ℕ) → IsName n → octets ≡ padded n → labels_in octets ≡ n
-labels_in-padded n octets name e = ap labels_in e ∙ labels_in-wire n (replicate (255 - length (wire n)) 0) name.each
+pub labels_of_wire-padded : (n : List (List ℕ)) (octets : List ℕ) → IsName n → octets ≡ padded n → labels_of_wire octets ≡ n
+labels_of_wire-padded n octets name e = ap labels_of_wire e ∙ labels_of_wire-wire n (replicate (255 - length (wire n)) 0) name.each
 
 -- what holds of a name as it lies in memory
 pub holds_name : (n : List (List ℕ)) (octets : List ℕ) (len : ℕ) → IsName n → octets ≡ padded n → len ≡ length (wire n) → HoldsName octets len
 holds_name n octets len name e counted =
-    let back : n ≡ labels_in octets = sym (labels_in-padded n octets name e) in
+    let back : n ≡ labels_of_wire octets = sym (labels_of_wire-padded n octets name e) in
     record {
       name = subst IsName back name;
       spelled = e ∙ ap padded back;
@@ -136,18 +137,18 @@ holds_label label held is e =
     )
 
 -- the labels of a wire form alone
-pub labels_in-wire_alone : (n : List (List ℕ)) → AllByRecursion IsLabel n → labels_in (wire n) ≡ n
-labels_in-wire_alone n h = ap labels_in (sym (append-nil (wire n))) ∙ labels_in-wire n [] h
+pub labels_of_wire-wire_alone : (n : List (List ℕ)) → AllByRecursion IsLabel n → labels_of_wire (wire n) ≡ n
+labels_of_wire-wire_alone n h = ap labels_of_wire (sym (append-nil (wire n))) ∙ labels_of_wire-wire n [] h
 
-pub wire_is_wire : (n : List (List ℕ)) (octets : List ℕ) → AllByRecursion IsLabel n → octets ≡ wire n → IsWire octets × (labels_in octets ≡ n)
+pub wire_is_wire : (n : List (List ℕ)) (octets : List ℕ) → AllByRecursion IsLabel n → octets ≡ wire n → IsWire octets × (labels_of_wire octets ≡ n)
 wire_is_wire n octets h e =
-    let labels : labels_in octets ≡ n = ap labels_in e ∙ labels_in-wire_alone n h in
+    let labels : labels_of_wire octets ≡ n = ap labels_of_wire e ∙ labels_of_wire-wire_alone n h in
     (record { each = subst (AllByRecursion IsLabel) (sym labels) h; spelled = e ∙ ap wire (sym labels) }, labels)
 
 -- the first label and the octets behind it
 pub record TakesLabel (octets : List ℕ) (len : ℕ) : Type 0 where
   pub rest : IsWire (take (length octets - (1 + len)) (drop (1 + len) octets))
-  pub labels : labels_in octets ≡ take (1 + len - 1) (drop 1 octets) ∷ labels_in (take (length octets - (1 + len)) (drop (1 + len) octets))
+  pub labels : labels_of_wire octets ≡ take (1 + len - 1) (drop 1 octets) ∷ labels_of_wire (take (length octets - (1 + len)) (drop (1 + len) octets))
 
 takes : (label : List ℕ) (n : List (List ℕ)) → AllByRecursion IsLabel n → IsLabel label → TakesLabel (wire (label ∷ n)) (length label)
 takes label n each is =
@@ -157,12 +158,12 @@ takes label n each is =
     let rest : take (length (wire (label ∷ n)) - (1 + length label)) (drop (1 + length label) (wire (label ∷ n))) ≡ wire n = take_rest (wire (label ∷ n)) (1 + length label) ∙ behind in
     let front : take (1 + length label - 1) (drop 1 (wire (label ∷ n))) ≡ label = ap (λ j. take j (label ++ wire n)) back ∙ take_at label (wire n) (length label) refl in
     let wired = wire_is_wire n _ each rest in
-    record { rest = wired.0; labels = labels_in-wire_alone (label ∷ n) (is, each) ∙ (λ i. sym front i ∷ sym wired.1 i) }
+    record { rest = wired.0; labels = labels_of_wire-wire_alone (label ∷ n) (is, each) ∙ (λ i. sym front i ∷ sym wired.1 i) }
 
 pub takes_label : (octets : List ℕ) → IsWire octets → get_or octets 0 0 ≢ 0 → TakesLabel octets (get_or octets 0 0)
-takes_label octets h some = go (labels_in octets) refl
+takes_label octets h some = go (labels_of_wire octets) refl
   where
-    go : (n : List (List ℕ)) → labels_in octets ≡ n → TakesLabel octets (get_or octets 0 0)
+    go : (n : List (List ℕ)) → labels_of_wire octets ≡ n → TakesLabel octets (get_or octets 0 0)
     go [] e = absurd (some (ap (λ o. get_or o 0 0) (h.spelled ∙ ap wire e)))
     go (label ∷ n) e =
         let each : AllByRecursion IsLabel (label ∷ n) = subst (AllByRecursion IsLabel) e h.each in

@@ -46,9 +46,9 @@ name_text [] = dot ∷ []
 name_text (label ∷ n) = flat_map label_text (label ∷ n)
 
 -- the labels with a dot between each two; the root is one dot
-abbrev pub bare_name_text : List (List ℕ) → List ℕ
-bare_name_text [] = dot ∷ []
-bare_name_text (label ∷ n) = octets_text label ++ flat_map (λ next. dot ∷ octets_text next) n
+abbrev pub name_text_without_dot : List (List ℕ) → List ℕ
+name_text_without_dot [] = dot ∷ []
+name_text_without_dot (label ∷ n) = octets_text label ++ flat_map (λ next. dot ∷ octets_text next) n
 
 -- ---- text in, faults in order from the left
 
@@ -75,30 +75,30 @@ first_octet c rest =
     else Err BadCharacter
 
 -- one more octet in a label
-abbrev pub with_octet : List ℕ → ℕ → Result (List ℕ) NameError
-with_octet label octet = if nat_lt (length label) 63 then Ok (label ++ octet ∷ []) else Err LabelTooLong
+abbrev pub add_octet : List ℕ → ℕ → Result (List ℕ) NameError
+add_octet label octet = if nat_lt (length label) 63 then Ok (label ++ octet ∷ []) else Err LabelTooLong
 
 -- one more label in a name
-abbrev pub with_label : List (List ℕ) → List ℕ → Result (List (List ℕ)) NameError
-with_label n label =
+abbrev pub add_label : List (List ℕ) → List ℕ → Result (List (List ℕ)) NameError
+add_label n label =
     if nat_eq (length label) 0 then Err EmptyLabel
     else if nat_lt 255 (length (wire n) + length label + 1) then Err NameTooLong
     else Ok (n ++ label ∷ [])
 
 -- the name at the end of the text: a last dot may stand
 abbrev pub at_end : List (List ℕ) → List ℕ → Result (List (List ℕ)) NameError
-at_end n label = if nat_eq (length label) 0 && nat_lt 0 (length n) then Ok n else with_label n label
+at_end n label = if nat_eq (length label) 0 && nat_lt 0 (length n) then Ok n else add_label n label
 
 -- What the text behind the labels n and the octets of a label so far completes. Each step reads a character at least.
 unfoldable pub labels_of : (steps : ℕ) → List (List ℕ) → List ℕ → List ℕ → Result (List (List ℕ)) NameError
 labels_of steps n label [] = at_end n label
 labels_of zero n label (c ∷ rest) = Err BadCharacter
 labels_of (suc steps) n label (c ∷ rest) =
-    if nat_eq c dot then with_label n label >>= (λ longer. labels_of steps longer [] rest)
-    else first_octet c rest >>= (λ x. with_octet label x.0 >>= (λ longer. labels_of steps n longer x.1))
+    if nat_eq c dot then add_label n label >>= (λ longer. labels_of steps longer [] rest)
+    else first_octet c rest >>= (λ x. add_octet label x.0 >>= (λ longer. labels_of steps n longer x.1))
 
 -- the name that the text spells, or the first fault; one dot is the root
-abbrev pub name_of : List ℕ → Result (List (List ℕ)) NameError
-name_of [] = Err EmptyLabel
-name_of (c ∷ []) = if nat_eq c dot then Ok [] else labels_of 1 [] [] (c ∷ [])
-name_of (c ∷ d ∷ rest) = labels_of (length (c ∷ d ∷ rest)) [] [] (c ∷ d ∷ rest)
+abbrev pub name_from_text : List ℕ → Result (List (List ℕ)) NameError
+name_from_text [] = Err EmptyLabel
+name_from_text (c ∷ []) = if nat_eq c dot then Ok [] else labels_of 1 [] [] (c ∷ [])
+name_from_text (c ∷ d ∷ rest) = labels_of (length (c ∷ d ∷ rest)) [] [] (c ∷ d ∷ rest)

@@ -2,7 +2,7 @@
 ghost use Rattle.std.specs.Prelude.{◌≡◌, ◌+◌, ◌<◌, ◌≤◌, ◌++◌, ◌∷◌, [], length, IfOk, MatchResult, Ok, Err};
 ghost use Rattle.dns_names.specs.Names.{IsName};
 ghost use Rattle.dns_wire.specs.Reading.{Gives};
-ghost use Rattle.dns_names.specs.NameText.{first_octet, escaped, with_label, labels_of, at_end, name_of};
+ghost use Rattle.dns_names.specs.NameText.{first_octet, escaped, add_label, labels_of, at_end, name_from_text};
 
 use crate::name::Name;
 use dns_wire::NameError;
@@ -93,7 +93,7 @@ fn spelled_name(text: &[u8]) -> Result<Name, NameError>
     let mut rest = text;
     'characters: while let [first, after @ ..] = rest {
         if *first == b'.' {
-            name.push_label(label.as_slice())?;
+            name.add_label(label.as_slice())?;
             label = LabelBuf::new();
             rest = after;
         } else {
@@ -109,21 +109,6 @@ fn spelled_name(text: &[u8]) -> Result<Name, NameError>
 }
 
 impl Name {
-    /// Puts a label at the end, where it is one and there is room.
-    fn push_label(&mut self, label: &[u8]) -> Result<(), NameError>
-        requires { length label.now ≤ 63 }
-        ensures { MatchResult result (λ _. with_label self.old label.now ≡ Ok self.new) (λ e. with_label self.old label.now ≡ Err e) }
-    {
-        if label.is_empty() {
-            return Err(NameError::EmptyLabel);
-        }
-        if self.len() + label.len() + 1 > 255 {
-            return Err(NameError::NameTooLong);
-        }
-        self.push(label);
-        Ok(())
-    }
-
     /// The name at the end of the text, where a dot may have stood last.
     fn finished(mut self, label: &[u8]) -> Result<Name, NameError>
         requires { length label.now ≤ 63 }
@@ -132,7 +117,7 @@ impl Name {
         if label.is_empty() && !self.is_root() {
             return Ok(self);
         }
-        self.push_label(label)?;
+        self.add_label(label)?;
         Ok(self)
     }
 
@@ -145,7 +130,7 @@ impl Name {
     /// the 64th octet of a label, `NameTooLong` at the end of a label that brings the wire form above 255 octets,
     /// `BadEscape` at a backslash before anything else, `BadCharacter` at a character that is not visible ASCII.
     pub fn from_ascii(text: &str) -> Result<Name, NameError>
-        ensures exact { result ≡ name_of text.now }
+        ensures exact { result ≡ name_from_text text.now }
         ensures name { IfOk result IsName }
     {
         Name::from_ascii_octets(text.as_bytes())
@@ -157,7 +142,7 @@ impl Name {
     ///
     /// Those of `from_ascii`; an octet above 126 is no visible character.
     pub fn from_ascii_octets(text: &[u8]) -> Result<Name, NameError>
-        ensures exact { result ≡ name_of text.now }
+        ensures exact { result ≡ name_from_text text.now }
         ensures name { IfOk result IsName }
     {
         if text == b".".as_slice() {

@@ -2,8 +2,8 @@
 ghost use Rattle.std.specs.Prelude.{◌≡◌, ◌↔◌, ℕ, ◌+◌, ◌≤◌, List, ◌++◌, length, slice_index};
 ghost use Rattle.dns_wire.specs.Octets.{AreOctets, lowered};
 ghost use Rattle.dns_names.specs.Names.{wire, low, IsName};
-ghost use Rattle.dns_names.specs.NameText.{name_text, name_of};
-ghost use Rattle.dns_names.specs.Places.{NameAt, pointer_target, read_octet, labels_from, name_at};
+ghost use Rattle.dns_names.specs.NameText.{name_text, name_from_text};
+ghost use Rattle.dns_names.specs.Places.{NameAt, pointer_target, read_octet, read_labels, name_at};
 
 /// A written name stands where it was written, whatever lies before and behind it.
 pub fn written_name_stands()
@@ -28,8 +28,8 @@ pub fn standing_name_is_name()
 /// Reading a name begins with an empty wire form but for its zero octet, and goes octet by octet: each says the end, a fault, or
 /// where reading goes on.
 pub fn name_is_read_by_octets()
-    ensures begins { (m : List ℕ) (p e : ℕ) → name_at m p e ≡ labels_from m p p e 1 }
-    ensures goes_on { (m : List ℕ) (r p e size : ℕ) → size ≤ 255 → labels_from m r p e size ≡ read_octet m r p e size (labels_from m r (p + 1 + slice_index m p) e (size + 1 + slice_index m p)) (labels_from m (pointer_target m p) (pointer_target m p) (length m) size) }
+    ensures begins { (m : List ℕ) (p e : ℕ) → name_at m p e ≡ read_labels m p p e 1 }
+    ensures goes_on { (m : List ℕ) (r p e size : ℕ) → size ≤ 255 → read_labels m r p e size ≡ read_octet m r p e size (read_labels m r (p + 1 + slice_index m p) e (size + 1 + slice_index m p)) (read_labels m (pointer_target m p) (pointer_target m p) (length m) size) }
 {}
 
 /// Lowering a wire form lowers its labels alone, since no length is a letter.
@@ -39,5 +39,5 @@ pub fn lowering_keeps_lengths()
 
 /// The text of a name is read as the name.
 pub fn name_text_is_read()
-    ensures { (n : List (List ℕ)) → IsName n → name_of (name_text n) ≡ Ok n }
+    ensures { (n : List (List ℕ)) → IsName n → name_from_text (name_text n) ≡ Ok n }
 {}

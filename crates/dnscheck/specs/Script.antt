@@ -5,7 +5,7 @@ use Rattle.std.specs.Option.{ok_or}
 use Rattle.std.specs.Result.{result_ok}
 use Rattle.std.specs.Str.{bytes_eq}
 use Rattle.dns_wire.specs.Reading.{◌>>=◌}
-use Rattle.dns_names.specs.NameText.{name_of}
+use Rattle.dns_names.specs.NameText.{name_from_text}
 use Rattle.dns_text.specs.Words.{is_text, is_skipped, lines, without_return, words, two_words, four_words}
 use Rattle.dns_text.specs.Words.{number_below, decode_hex}
 use Rattle.sec_digest.specs.declared.hmac.HmacHash.{HmacHash}
@@ -45,7 +45,7 @@ hash_named word = if bytes_eq word (codes "hmac-sha256") then Ok Sha256 else Err
 
 -- the name that a word spells
 abbrev pub spelled_name : List ℕ → Result (List (List ℕ)) ScriptError
-spelled_name word = ok_or (result_ok (name_of word)) Fault
+spelled_name word = ok_or (result_ok (name_from_text word)) Fault
 
 -- the number below a limit that a word's decimal digits write
 abbrev pub number_in : ℕ → List ℕ → Result ℕ ScriptError

@@ -1,17 +1,17 @@
 use Rattle.std.proofs.Common.{get_or, ap, sym, ◌∙◌, length, arith}
 use Rattle.std.proofs.lemmas.Result.{err_from_is_err_and}
-use Rattle.dns_names.specs.NameText.{with_label, at_end}
+use Rattle.dns_names.specs.NameText.{add_label, at_end}
 use Rattle.dns_names.proofs.Spelled.{split, none_left, dot_stops, dot_on, octet_stops, octet_on, long_stops, first_octet_shorter}
 use Rattle.dns_names.proofs.ascii.spelled_name.Goals as goal
 
-pub returns-in_err-push_label : goal.returns-in_err-push_label
-returns-in_err-push_label c =
+pub returns-in_err-add_label : goal.returns-in_err-add_label
+returns-in_err-add_label c =
     let p = err_from_is_err_and c.from_residual.result c.from_residual.ensures.1 in
-    rw (p.1, p.2) (dot_stops (split c.characters.invariant c.in-len1-up.len_at_least) _ c.if-first-eq46.true (ap (with_label c.characters.name) (sym c.as_slice.ensures.value) ∙ c.in_err-push_label.ensures))
+    rw (p.1, p.2) (dot_stops (split c.characters.invariant c.in-len1-up.len_at_least) _ c.if-first-eq46.true (ap (add_label c.characters.name) (sym c.as_slice.ensures.value) ∙ c.in_err-add_label.ensures))
 
 pub characters-preserved-then-first-eq46 : goal.characters-preserved-then-first-eq46
 characters-preserved-then-first-eq46 c =
-    rw c.new-label-then-first-eq46.ensures (dot_on (split c.characters.invariant c.in-len1-up.len_at_least) _ c.if-first-eq46.true (ap (with_label c.characters.name) (sym c.as_slice.ensures.value) ∙ c.in_ok-push_label.ensures))
+    rw c.new-label-then-first-eq46.ensures (dot_on (split c.characters.invariant c.in-len1-up.len_at_least) _ c.if-first-eq46.true (ap (add_label c.characters.name) (sym c.as_slice.ensures.value) ∙ c.in_ok-add_label.ensures.0))
 
 pub returns-in_err-octet : goal.returns-in_err-octet
 returns-in_err-octet c =

@@ -1,11 +1,11 @@
 use Rattle.std.proofs.Common.{◌≡◌, Bool, ◌&&◌, cond, true, Ok, false, List, ℕ, [], ◌∷◌, length, sym, ◌∙◌, ap, refl, nat_eq}
 use Rattle.std.proofs.lemmas.Result.{err_from_is_err_and}
 use Rattle.std.specs.Cmp.Lexicographic.{pointwise}
-use Rattle.dns_names.specs.NameText.{name_of, labels_of}
+use Rattle.dns_names.specs.NameText.{name_from_text, labels_of}
 use Rattle.dns_names.proofs.name.Name.from_ascii_octets.Goals as goal
 
 -- a text other than one dot
-other : (text : List ℕ) → pointwise nat_eq text (46 ∷ []) ≡ false → labels_of (length text) [] [] text ≡ name_of text
+other : (text : List ℕ) → pointwise nat_eq text (46 ∷ []) ≡ false → labels_of (length text) [] [] text ≡ name_from_text text
 unfolding labels_of
 other [] h = refl
 other (c ∷ []) h = chosen (nat_eq c 46) h

@@ -1,13 +1,13 @@
 use Rattle.std.proofs.Common.{◌≡◌, ◌++◌, ◌∷◌, [], ◌+◌, ◌-◌, ◌≤◌, List, ℕ, ap, refl, ◌∙◌, length, set, arith}
 use borrow.Rule.Slice.PartMut.{put_mid}
-use Rattle.dns_names.specs.Names.{IsName, IsLabel, wire, labels_in, padded}
-use Rattle.dns_names.specs.NameLaws.{holds_name, labels_in-padded, octets_by_index}
-use Rattle.dns_names.proofs.Pushed.{pushed_padded, name_push, length-wire-push}
+use Rattle.dns_names.specs.Names.{IsName, IsLabel, wire, labels_of_wire, padded}
+use Rattle.dns_names.specs.NameLaws.{holds_name, labels_of_wire-padded, octets_by_index}
+use Rattle.dns_names.proofs.NamePush.{pushed_padded, name_push, length-wire-push}
 use Rattle.dns_names.proofs.name.Name.push.Goals as goal
 
 -- the name before the call
 abbrev old : goal.After-self-1 → List (List ℕ)
-old c = labels_in c.self.inside.octets
+old c = labels_of_wire c.self.inside.octets
 
 fits : (c : goal.After-self-1) → length (wire (old c)) + length c.args.label.now + 1 ≤ 255
 fits c = omega (arith, c.requires.at_most_255, ap (λ n. length (wire n)) c.self.view_is)
@@ -28,7 +28,7 @@ pub invariant_of-self : goal.invariant_of-self
 invariant_of-self c = holds_name (old c ++ c.args.label.now ∷ []) _ _ (is_name c) (is_padded c) (omega (arith, length-wire-push (old c) c.args.label.now, c.self.invariant.counted))
 
 pub returns-clause-after : goal.returns-clause-after
-returns-clause-after c = labels_in-padded (old c ++ c.args.label.now ∷ []) _ (is_name c) (is_padded c) ∙ ap (λ n. n ++ c.args.label.now ∷ []) c.self.view_is
+returns-clause-after c = labels_of_wire-padded (old c ++ c.args.label.now ∷ []) _ (is_name c) (is_padded c) ∙ ap (λ n. n ++ c.args.label.now ∷ []) c.self.view_is
 
 pub returns-clause-is_name : goal.returns-clause-is_name
 returns-clause-is_name c = (invariant_of-self c).name

@@ -31,7 +31,8 @@ pub returns-clause-inside : goal.returns-clause-inside
 returns-clause-inside c = rw c.set_index.ensures.place (labels_next (name_at_sound c.args.decoder.now.buffer.now c.args.decoder.now.index c.args.end c.in_ok-name.name c.in_ok-name.next c.requires.inside (sym (c.in_ok-name.ensures.value ∙ (λ i. name_at (c.buffer.ensures i) (c.index.ensures.place i) c.args.end)))).labels)
 
 pub returns-clause-exact : goal.returns-clause-exact
-returns-clause-exact c =
-    (sym (c.in_ok-name.ensures.value ∙ (λ i. name_at (c.buffer.ensures i) (c.index.ensures.place i) c.args.end)) ∙ ap (λ q. Ok (c.in_ok-name.name, q)) (sym c.set_index.ensures.place),
-     c.set_index.ensures.octets,
-     omega (arith, labels_forward (name_at_sound c.args.decoder.now.buffer.now c.args.decoder.now.index c.args.end c.in_ok-name.name c.in_ok-name.next c.requires.inside (sym (c.in_ok-name.ensures.value ∙ (λ i. name_at (c.buffer.ensures i) (c.index.ensures.place i) c.args.end)))).labels, c.set_index.ensures.place))
+returns-clause-exact c = (
+  sym (c.in_ok-name.ensures.value ∙ (λ i. name_at (c.buffer.ensures i) (c.index.ensures.place i) c.args.end)) ∙ ap (λ q. Ok (c.in_ok-name.name, q)) (sym c.set_index.ensures.place),
+  c.set_index.ensures.octets,
+  omega (arith, labels_forward (name_at_sound c.args.decoder.now.buffer.now c.args.decoder.now.index c.args.end c.in_ok-name.name c.in_ok-name.next c.requires.inside (sym (c.in_ok-name.ensures.value ∙ (λ i. name_at (c.buffer.ensures i) (c.index.ensures.place i) c.args.end)))).labels, c.set_index.ensures.place),
+)

@@ -2,8 +2,8 @@ use Rattle.std.proofs.Common.{◌≡◌, ◌∷◌, ◌++◌, List, ℕ, sym, ap
 use Rattle.std.specs.List.{flat_map}
 use Rattle.std.proofs.lemmas.Grind.{put_two}
 use Rattle.std.proofs.lemmas.Map.Iter.{iter_end}
-use Rattle.dns_names.specs.NameText.{dot, octets_text, bare_name_text}
-use Rattle.dns_names.proofs.text.BareNameDisplay.fmt.Goals as goal
+use Rattle.dns_names.specs.NameText.{dot, octets_text, name_text_without_dot}
+use Rattle.dns_names.proofs.text.NameWithoutDotDisplay.fmt.Goals as goal
 
 pub returns-clause-writes : goal.returns-clause-writes
 returns-clause-writes g c plain ok =
@@ -13,4 +13,4 @@ returns-clause-writes g c plain ok =
     c.into_iter-label-iterator.ensures.into_iter_gives c.loop-label.yielded_by c.in-None.is c.next-in-loop-label.ensures.steps in
     let is : c.args.self.now.0.now ≡ c.in-Some.first.now ∷ c.next.new.self = sym c.iter-labels.ensures.value ∙ c.in-Some.ensures.steps in
     let after : List (List ℕ) → List ℕ = flat_map (λ next. dot ∷ octets_text next) in
-    put_two _ _ _ _ _ _ _ first rest (ap (λ n. octets_text c.in-Some.first.now ++ after n) all.0 ∙ ap bare_name_text (sym is))
+    put_two _ _ _ _ _ _ _ first rest (ap (λ n. octets_text c.in-Some.first.now ++ after n) all.0 ∙ ap name_text_without_dot (sym is))

@@ -1,5 +1,5 @@
 use Rattle.dns_names.specs.Jumps.{LeadsTo}
-use Rattle.dns_names.proofs.jumps.chain_end.Given as goal
+use Rattle.dns_names.proofs.jumps.end_of_chain.Given as goal
 
 abbrev pub invariant-loop-place : goal.invariant-loop-place
 invariant-loop-place l = LeadsTo l.octets l.first l.place

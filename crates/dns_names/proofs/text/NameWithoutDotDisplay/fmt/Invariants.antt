@@ -2,7 +2,7 @@ use Rattle.std.proofs.Common.{◌∷◌, map}
 use Rattle.std.specs.List.{flat_map}
 use Rattle.std.specs.Fmt.{HasWritten, IsPlainFormatter}
 use Rattle.dns_names.specs.NameText.{dot, octets_text}
-use Rattle.dns_names.proofs.text.BareNameDisplay.fmt.Given as goal
+use Rattle.dns_names.proofs.text.NameWithoutDotDisplay.fmt.Given as goal
 
 abbrev pub invariant-loop-label : goal.invariant-loop-label
 invariant-loop-label g l =
