@@ -1,49 +1,17 @@
--- Fields skipped one behind the other.
+-- Fields without_value one behind the other.
 use Rattle.std.proofs.Common.{◌≡◌, inl, inr, ℕ, zero, suc, ◌+◌, ◌-◌, ◌<◌, ◌≤◌, List, [], ◌∷◌, length, drop, get_or, Result, Ok, Err, refl, sym, ap, ◌∙◌, arith, add-one, drop-cons}
 use Rattle.std.proofs.lemmas.List.{drop_all}
 use Rattle.dns_wire.specs.declared.error.DecodeError.{DecodeError}
 use Rattle.dns_wire.specs.Reading.{◌>>=◌}
-use Rattle.dns_names.specs.Jumps.{next_of}
-use Rattle.dns_names.specs.Places.{name_at}
-use Rattle.dns_names.proofs.PlaceLaws.{name_at_sound, labels_forward, labels_next}
 use Rattle.dns_grammar.specs.Fields.{Value, Field, value_at, strings_at, no_fault, fields_at}
 use Rattle.dns_grammar.proofs.FieldLaws.{more_strings, strings_end, strings_more, counted_forward}
 use Rattle.dns_wire.specs.Reading.{counted_at}
 use Rattle.dns_wire.proofs.FieldLaws.{counted_stands}
 use Rattle.std.proofs.lemmas.Bool.Decides.{leb_tells}
 use Rattle.std.specs.Int.{w8}
-use Rattle.dns_grammar.specs.Checks.{skipped}
+use Rattle.dns_names.specs.Skipping.{without_value}
 use Rattle.dns_grammar.specs.declared.check.FieldForm.{FieldForm}
 use Rattle.dns_grammar.specs.FieldForms.{form_field, form_fields}
-
--- ---- names
-
--- a name that is skipped ends at q, behind its place and before the end
-pub record SkipsName (m : List ℕ) (p e q : ℕ) : Type 0 where
-  pub given : skipped (name_at m p e) ≡ Ok (tt, q)
-  pub forward : p ≤ q
-  pub inside : q ≤ e
-
-pub skips_name : (m : List ℕ) (p e q : ℕ) → e ≤ length m → next_of (name_at m p e) ≡ Ok q → SkipsName m p e q
-skips_name m p e q within is = go (name_at m p e) refl is
-  where
-    go : (r : Result (List (List ℕ) × ℕ) DecodeError) → name_at m p e ≡ r → next_of r ≡ Ok q → SkipsName m p e q
-    go (Ok x) read is =
-        let same : x.1 ≡ q = cc in
-        let stands = name_at_sound m p e x.0 x.1 within read in
-        record {
-          given = ap skipped read ∙ ap (λ (k : ℕ). let ok : Result (Unit {0} × ℕ) DecodeError = Ok (tt, k) in ok) same;
-          forward = omega (arith, same, labels_forward stands.labels);
-          inside = omega (arith, same, labels_next stands.labels);
-        }
-    go (Err e) read is = absurd cc
-
-pub name_fails : (m : List ℕ) (p e : ℕ) (fault : DecodeError) → next_of (name_at m p e) ≡ Err fault → skipped (name_at m p e) ≡ Err fault
-name_fails m p e fault is = go (name_at m p e) is
-  where
-    go : (r : Result (List (List ℕ) × ℕ) DecodeError) → next_of r ≡ Err fault → skipped r ≡ Err fault
-    go (Ok x) is = absurd cc
-    go (Err e) is = cc
 
 -- ---- strings
 
@@ -78,35 +46,35 @@ pub counted_on : (m : List ℕ) (p e : ℕ) (x : List ℕ) (q : ℕ) → e ≤ l
 counted_on m p e x q within read = counted_forward m p e x q (counted_stands w8 m p e x q within read)
 
 pub strings_next : (m : List ℕ) (p e : ℕ) → e ≤ length m → p < e
-    → skipped (strings_at (e - p) m p e) ≡ (skipped (counted_at w8 m p e) >>= λ x. skipped (strings_at (e - x.1) m x.1 e))
+    → without_value (strings_at (e - p) m p e) ≡ (without_value (counted_at w8 m p e) >>= λ x. without_value (strings_at (e - x.1) m x.1 e))
 strings_next m p e within lt =
     let more : e - p ≡ suc (e - p - 1) = omega arith in
-    ap (λ k. skipped (strings_at k m p e)) more ∙ ap skipped (strings_more (e - p - 1) m p e lt) ∙ go (counted_at w8 m p e) refl
+    ap (λ k. without_value (strings_at k m p e)) more ∙ ap without_value (strings_more (e - p - 1) m p e lt) ∙ go (counted_at w8 m p e) refl
   where
-    forget : (string : List ℕ) (rest : Result (List (List ℕ) × ℕ) DecodeError) → skipped (string_before string rest) ≡ skipped rest
+    forget : (string : List ℕ) (rest : Result (List (List ℕ) × ℕ) DecodeError) → without_value (string_before string rest) ≡ without_value rest
     forget string (Ok x) = refl
     forget string (Err fault) = refl
 
     go : (r : Result (List ℕ × ℕ) DecodeError) → counted_at w8 m p e ≡ r
-        → skipped (r >>= λ x. string_before x.0 (strings_at (e - p - 1) m x.1 e)) ≡ (skipped r >>= λ x. skipped (strings_at (e - x.1) m x.1 e))
+        → without_value (r >>= λ x. string_before x.0 (strings_at (e - p - 1) m x.1 e)) ≡ (without_value r >>= λ x. without_value (strings_at (e - x.1) m x.1 e))
     go (Ok x) read =
         let forward : p < x.1 = counted_forward m p e x.0 x.1 (counted_stands w8 m p e x.0 x.1 within read) in
         forget x.0 (strings_at (e - p - 1) m x.1 e)
-        ∙ ap skipped (strings_enough (e - p - 1) (e - x.1) m x.1 e within (omega (arith, forward, lt)) (omega arith))
+        ∙ ap without_value (strings_enough (e - p - 1) (e - x.1) m x.1 e within (omega (arith, forward, lt)) (omega arith))
     go (Err fault) read = refl
 
-pub strings_stop : (m : List ℕ) (p e : ℕ) → e ≤ p → skipped (strings_at (e - p) m p e) ≡ Ok (tt, p)
-strings_stop m p e le = ap skipped (strings_end (e - p) m p e le)
+pub strings_stop : (m : List ℕ) (p e : ℕ) → e ≤ p → without_value (strings_at (e - p) m p e) ≡ Ok (tt, p)
+strings_stop m p e le = ap without_value (strings_end (e - p) m p e le)
 
 -- ---- fields
 
 -- a field, and those behind it
 pub fields_split : (field : Field) (fields : List Field) (m : List ℕ) (p e : ℕ)
-    → skipped (fields_at (field ∷ fields) m p e) ≡ (skipped (fields_at (field ∷ []) m p e) >>= λ x. skipped (fields_at fields m x.1 e))
+    → without_value (fields_at (field ∷ fields) m p e) ≡ (without_value (fields_at (field ∷ []) m p e) >>= λ x. without_value (fields_at fields m x.1 e))
 fields_split field fields m p e = go (value_at field.kind m p e)
   where
     forget : (value : Value) (rest : Result (List Value × ℕ) DecodeError)
-        → skipped (rest >>= λ values. Ok (value ∷ values.0, values.1)) ≡ skipped rest
+        → without_value (rest >>= λ values. Ok (value ∷ values.0, values.1)) ≡ without_value rest
     forget value (Ok x) = refl
     forget value (Err fault) = refl
 
@@ -117,26 +85,26 @@ fields_split field fields m p e = go (value_at field.kind m p e)
       Ok (value.0 ∷ values.0, values.1)
 
     tested : (value : Value × ℕ) (test : Result (Unit {0}) DecodeError)
-        → skipped (behind value test (fields_at fields m value.1 e)) ≡ (skipped (behind value test (Ok ([], value.1))) >>= λ x. skipped (fields_at fields m x.1 e))
+        → without_value (behind value test (fields_at fields m value.1 e)) ≡ (without_value (behind value test (Ok ([], value.1))) >>= λ x. without_value (fields_at fields m x.1 e))
     tested value (Ok u) = forget value.0 (fields_at fields m value.1 e)
     tested value (Err fault) = refl
 
     go : (r : Result (Value × ℕ) DecodeError)
-        → skipped (r >>= λ value. behind value (no_fault (field.fault value.0)) (fields_at fields m value.1 e))
-        ≡ (skipped (r >>= λ value. behind value (no_fault (field.fault value.0)) (Ok ([], value.1))) >>= λ x. skipped (fields_at fields m x.1 e))
+        → without_value (r >>= λ value. behind value (no_fault (field.fault value.0)) (fields_at fields m value.1 e))
+        ≡ (without_value (r >>= λ value. behind value (no_fault (field.fault value.0)) (Ok ([], value.1))) >>= λ x. without_value (fields_at fields m x.1 e))
     go (Err fault) = refl
     go (Ok value) = tested value (no_fault (field.fault value.0))
 
 -- the fields from i on, split at the first
 pub fields_next : {T : Type 0} (tested : T → Field) (forms : List (FieldForm T)) (i : ℕ) (form : FieldForm T) (m : List ℕ) (p e : ℕ)
     → i < length forms → form ≡ get_or forms i form
-    → skipped (fields_at (form_fields tested (drop i forms)) m p e)
-    ≡ (skipped (fields_at (form_field tested form ∷ []) m p e) >>= λ x. skipped (fields_at (form_fields tested (drop (i + 1) forms)) m x.1 e))
+    → without_value (fields_at (form_fields tested (drop i forms)) m p e)
+    ≡ (without_value (fields_at (form_field tested form ∷ []) m p e) >>= λ x. without_value (fields_at (form_fields tested (drop (i + 1) forms)) m x.1 e))
 fields_next tested forms i form m p e lt is =
     let split : drop i forms ≡ get_or forms i form ∷ drop (i + 1) forms = rw (add-one, drop-cons forms i form) refl in
-    ap (λ l. skipped (fields_at (form_fields tested l) m p e)) (split ∙ ap (λ f. f ∷ drop (i + 1) forms) (sym is))
+    ap (λ l. without_value (fields_at (form_fields tested l) m p e)) (split ∙ ap (λ f. f ∷ drop (i + 1) forms) (sym is))
     ∙ fields_split (form_field tested form) (form_fields tested (drop (i + 1) forms)) m p e
 
 pub fields_stop : {T : Type 0} (tested : T → Field) (forms : List (FieldForm T)) (i : ℕ) (m : List ℕ) (p e : ℕ)
-    → length forms ≤ i → skipped (fields_at (form_fields tested (drop i forms)) m p e) ≡ Ok (tt, p)
-fields_stop tested forms i m p e le = ap (λ l. skipped (fields_at (form_fields tested l) m p e)) (drop_all i forms le)
+    → length forms ≤ i → without_value (fields_at (form_fields tested (drop i forms)) m p e) ≡ Ok (tt, p)
+fields_stop tested forms i m p e le = ap (λ l. without_value (fields_at (form_fields tested l) m p e)) (drop_all i forms le)

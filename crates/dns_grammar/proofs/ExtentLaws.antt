@@ -41,7 +41,7 @@ labels_same {p = p} (Labels.root lt zero_octet x_is q_is) (Labels.pointer lt1 hi
     absurd (omega (arith, same p (omega arith) (omega (arith, q_is, q1_is)), zero_octet, high1))
 labels_same {p = p} (Labels.label lt nonempty at_most behind_is inside x_is rest) (Labels.root lt1 zero_octet1 y_is q1_is) same =
     absurd (omega (arith, same p (omega arith) (omega (arith, q1_is, behind_is, labels_forward rest)), zero_octet1, nonempty))
-labels_same {m} {r} {p} {e} {x} {q} {n} {r1} {e1} {y} {q1} (Labels.label {behind = behind} lt nonempty at_most behind_is inside x_is rest) (Labels.label {behind = behind1} {n1 = tail} lt1 nonempty1 at_most1 behind_is1 inside1 y_is rest1) same =
+labels_same {m} {r} {p} {e} {x} {q} {n} {r1} {e1} {y} {q1} (Labels.label {behind = behind} lt nonempty at_most behind_is inside x_is rest) (Labels.label {behind = behind1} {others = tail} lt1 nonempty1 at_most1 behind_is1 inside1 y_is rest1) same =
     let octet : get_or m p 0 ≡ get_or n p 0 = same p (omega arith) (omega (arith, behind_is, behind_is1, labels_forward rest, labels_forward rest1)) in
     let here : behind1 ≡ behind = omega (arith, behind_is, behind_is1, octet) in
     labels_same rest (subst (λ k. Labels n r1 k e1 tail q1) here rest1) (narrowed m n p (min q q1) behind (min q q1) (omega (arith, behind_is)) (omega arith) same)

@@ -5,7 +5,7 @@ use Rattle.std.proofs.lemmas.Bool.{ne_eqb}
 use Rattle.dns_wire.specs.declared.error.DecodeError.{DecodeError}
 use Rattle.dns_wire.specs.Reading.{◌>>=◌, each_at}
 use Rattle.dns_grammar.specs.Fields.{Table}
-use Rattle.dns_grammar.specs.Checks.{skipped}
+use Rattle.dns_names.specs.Skipping.{without_value}
 use Rattle.dns_grammar.specs.Messages.{Header, Query, ResourceRecord, Message, last_of, Signature, signature_from, Outline, outline_of}
 use Rattle.dns_grammar.specs.Messages.{record_at, queries_at, records_at, additionals_at, body_at, sized_header_at, message_at}
 use Rattle.dns_grammar.proofs.EachLaws.{last_of-more}
@@ -63,7 +63,7 @@ abbrev pub as_signature : Result (ResourceRecord × ℕ) DecodeError → Result 
 as_signature read = read >>= λ rr. Ok (signature_from rr.0, rr.1)
 
 last_signed : (table : Table) (m : List ℕ) (others : Result (List ResourceRecord × ℕ) DecodeError)
-    → signed (last_behind table m others) ≡ (skipped others >>= λ x. as_signature (record_at table true m x.1))
+    → signed (last_behind table m others) ≡ (without_value others >>= λ x. as_signature (record_at table true m x.1))
 last_signed table m (Ok xs) = go (record_at table true m xs.1)
   where
     go : (last : Result (ResourceRecord × ℕ) DecodeError) → signed (last >>= with_more xs.0) ≡ as_signature last
@@ -74,7 +74,7 @@ last_signed table m (Err e) = refl
 -- the signature among n additionals from p
 unfoldable pub signature_at : Table → ℕ → List ℕ → ℕ → Result (Option Signature × ℕ) DecodeError
 signature_at table zero m p = Ok (None, p)
-signature_at table (suc n) m p = skipped (records_at table n m p) >>= λ others. as_signature (record_at table true m others.1)
+signature_at table (suc n) m p = without_value (records_at table n m p) >>= λ others. as_signature (record_at table true m others.1)
 
 pub signature_is_last : (table : Table) (n : ℕ) (m : List ℕ) (p : ℕ) → signed (additionals_at table n m p) ≡ signature_at table n m p
 unfolding signature_at additionals_at
@@ -86,15 +86,15 @@ signature_is_last table (suc n) m p = ap signed (additionals_split table n m p) 
 -- the outline of what stands behind a header, from p
 unfoldable pub outline_behind : Table → List ℕ → Header → ℕ → Result (Outline × ℕ) DecodeError
 outline_behind table m header p = do
-  queries ← skipped (queries_at header.questions m p)
-  answers ← skipped (records_at table header.answers m queries.1)
-  authorities ← skipped (records_at table header.authorities m answers.1)
+  queries ← without_value (queries_at header.questions m p)
+  answers ← without_value (records_at table header.answers m queries.1)
+  authorities ← without_value (records_at table header.authorities m answers.1)
   signature ← signature_at table header.additionals m authorities.1
   Ok (record { header = header; signature = signature.0 }, signature.1)
 
 -- a step of which only the place is kept
 by_place : {A B C : Type 0} (first : Result (A × ℕ) DecodeError) (short : Unit {0} × ℕ → Result C DecodeError) (long : A × ℕ → Result B DecodeError) (view : B → Result C DecodeError)
-    → ((x : A) (q : ℕ) → (long (x, q) >>= view) ≡ short (tt, q)) → ((first >>= long) >>= view) ≡ (skipped first >>= short)
+    → ((x : A) (q : ℕ) → (long (x, q) >>= view) ≡ short (tt, q)) → ((first >>= long) >>= view) ≡ (without_value first >>= short)
 by_place (Ok x) short long view h = h x.0 x.1
 by_place (Err e) short long view h = refl
 

@@ -7,5 +7,4 @@ pub mod Extents
 pub mod FieldsOut
 pub mod Laws
 pub mod RowReaders
-pub mod Checks
 pub mod FieldForms

@@ -2,14 +2,13 @@
 ghost use Rattle.std.specs.Prelude.{◌≡◌, ◌+◌, ◌-◌, ◌≤◌, ◌<◌, List, [], ◌∷◌, length, IfOk};
 ghost use Rattle.dns_wire.specs.Reading.{octets, place, Gives, Reads};
 ghost use Rattle.dns_names.specs.Jumps.{AreJumps};
-ghost use Rattle.dns_names.specs.Places.{name_at};
 ghost use Rattle.dns_grammar.specs.Fields.{Field, Table, row_of, fields_at, strings_at};
 ghost use Rattle.dns_grammar.specs.RecordData.{one_type_data_at, rdata_at};
-ghost use Rattle.dns_grammar.specs.Checks.{skipped};
+ghost use Rattle.dns_names.specs.Skipping.{without_value};
 ghost use Rattle.dns_grammar.specs.FieldForms.{form_field, form_fields};
 
 use crate::span::{data_end, expect_end};
-use dns_names::skip_name;
+use dns_names::Name;
 use dns_types::RecordType;
 use dns_wire::{BinDecoder, DecodeError, EmitError};
 
@@ -30,7 +29,7 @@ pub trait TestedField {
         requires ahead { place decoder.old ≤ end }
         requires inside { end ≤ length (octets decoder.old) }
         ensures exact { Reads (λ u. u) result decoder.old decoder.new
-            (skipped (fields_at (field self.now ∷ []) (octets decoder.old) (place decoder.old) end)) }
+            (without_value (fields_at (field self.now ∷ []) (octets decoder.old) (place decoder.old) end)) }
         ensures inside { place decoder.new ≤ end };
 }
 
@@ -77,37 +76,13 @@ pub enum FieldForm<T> {
     Tested(T),
 }
 
-/// Skips the name at the decoder's place, its first run ending at or before `end` (RFC 1035 4.1.4).
-///
-/// # Errors
-///
-/// Those of `Name::read_within`. The decoder then stays in place.
-#[tactic(auto, using(crate::proofs::CheckLaws::skips_name, crate::proofs::CheckLaws::name_fails))]
-pub fn skip_name_within(
-    decoder: &mut BinDecoder<'_>,
-    end: usize,
-    jumps: &mut [u16],
-) -> Result<(), DecodeError>
-    requires ahead { place decoder.old ≤ end }
-    requires inside { end ≤ length (octets decoder.old) }
-    requires jumps { AreJumps (octets decoder.old) jumps.old }
-    ensures exact { Reads (λ u. u) result decoder.old decoder.new
-        (skipped (name_at (octets decoder.old) (place decoder.old) end)) }
-    ensures inside { place decoder.new ≤ end }
-    ensures jumps { AreJumps (octets decoder.old) jumps.new }
-{
-    let next = skip_name(decoder.buffer(), decoder.index(), end, jumps)?;
-    decoder.set_index(next);
-    Ok(())
-}
-
 /// Skips strings, each behind its count in one octet, up to `end`.
 #[tactic(auto, using(crate::proofs::CheckLaws::strings_next, crate::proofs::CheckLaws::strings_stop))]
 fn skip_strings<'a>(mut reader: BinDecoder<'a>, end: usize) -> Result<BinDecoder<'a>, DecodeError>
     requires ahead { place reader ≤ end }
     requires inside { end ≤ length (octets reader) }
     ensures exact { Gives (λ read. (tt, place read)) result
-        (skipped (strings_at (end - place reader.entry) (octets reader.entry) (place reader.entry) end)) }
+        (without_value (strings_at (end - place reader.entry) (octets reader.entry) (place reader.entry) end)) }
     ensures octets { IfOk result (λ read. octets read ≡ octets reader.entry) }
     ensures forward { IfOk result (λ read. place reader.entry ≤ place read) }
     ensures inside { IfOk result (λ read. place read ≤ end) }
@@ -130,7 +105,7 @@ impl<T: TestedField> FieldForm<T> {
         requires inside { end ≤ length (octets decoder.old) }
         requires jumps { AreJumps (octets decoder.old) jumps.old }
         ensures exact { Reads (λ u. u) result decoder.old decoder.new
-            (skipped (fields_at (form_field T.field self.now ∷ []) (octets decoder.old) (place decoder.old) end)) }
+            (without_value (fields_at (form_field T.field self.now ∷ []) (octets decoder.old) (place decoder.old) end)) }
         ensures inside { place decoder.new ≤ end }
         ensures jumps { AreJumps (octets decoder.old) jumps.new }
     {
@@ -160,7 +135,7 @@ impl<T: TestedField> FieldForm<T> {
                 *decoder = skip_strings(*decoder, end)?;
             }
             FieldForm::Octets => decoder.set_index(end),
-            FieldForm::Lowered | FieldForm::Kept => skip_name_within(decoder, end, jumps)?,
+            FieldForm::Lowered | FieldForm::Kept => Name::skip_with(decoder, end, jumps)?,
             FieldForm::Tested(field) => field.skip(decoder, end)?,
         }
         Ok(())
@@ -179,7 +154,7 @@ fn skip_fields<'a, T: TestedField>(
     requires inside { end ≤ length (octets reader) }
     requires jumps { AreJumps (octets reader) jumps.old }
     ensures exact { Gives (λ read. (tt, place read)) result
-        (skipped (fields_at (form_fields T.field fields.now) (octets reader.entry) (place reader.entry) end)) }
+        (without_value (fields_at (form_fields T.field fields.now) (octets reader.entry) (place reader.entry) end)) }
     ensures octets { IfOk result (λ read. octets read ≡ octets reader.entry) }
     ensures forward { IfOk result (λ read. place reader.entry ≤ place read) }
     ensures inside { IfOk result (λ read. place read ≤ end) }
@@ -207,7 +182,7 @@ pub fn check_fields<T: TestedField>(
     requires inside { end ≤ length (octets decoder.old) }
     requires jumps { AreJumps (octets decoder.old) jumps.old }
     ensures exact { Reads (λ u. u) result decoder.old decoder.new
-        (skipped (fields_at (form_fields T.field fields.now) (octets decoder.old) (place decoder.old) end)) }
+        (without_value (fields_at (form_fields T.field fields.now) (octets decoder.old) (place decoder.old) end)) }
     ensures inside { place decoder.new ≤ end }
     ensures jumps { AreJumps (octets decoder.old) jumps.new }
 {
@@ -231,7 +206,7 @@ pub fn check_row<T: TestedField>(
 ) -> Result<(), DecodeError>
     requires jumps { AreJumps (octets decoder.old) jumps.old }
     ensures exact { Reads (λ u. u) result decoder.old decoder.new
-        (skipped (one_type_data_at (form_fields T.field fields.now) (octets decoder.old) (place decoder.old) len)) }
+        (without_value (one_type_data_at (form_fields T.field fields.now) (octets decoder.old) (place decoder.old) len)) }
     ensures jumps { AreJumps (octets decoder.old) jumps.new }
 {
     let start = decoder.index();
@@ -259,7 +234,7 @@ pub fn check_rdata<T: TestedField>(
     requires jumps { AreJumps (octets decoder.old) jumps.old }
     ensures exact { (table : Table) → form_fields T.field fields.now ≡ row_of table rtype
         → Reads (λ u. u) result decoder.old decoder.new
-        (skipped (rdata_at table (octets decoder.old) (place decoder.old) len rtype)) }
+        (without_value (rdata_at table (octets decoder.old) (place decoder.old) len rtype)) }
     ensures jumps { AreJumps (octets decoder.old) jumps.new }
 {
     if len == 0 && rtype != RecordType::TSIG {

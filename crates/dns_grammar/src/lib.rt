@@ -7,9 +7,7 @@ pub mod laws;
 mod short_table;
 mod span;
 
-pub use check::{
-    FieldForm, TestedField, Untested, check_fields, check_rdata, check_row, skip_name_within,
-};
+pub use check::{FieldForm, TestedField, Untested, check_fields, check_rdata, check_row};
 pub use field_out::{FieldOut, emit_fields};
 pub use short_table::short_row;
 pub use span::{data_end, expect_end};
