@@ -160,6 +160,11 @@ skipped m p e q within h = at (name_at m p e) refl h
         record { name = x.0; stands = stands; forward = labels_forward stands.labels; inside = labels_next stands.labels }
     at (Err f) e1 h = absurd (cc)
 
+-- a fault is none of a name
+pub no_name_skipped : (o : LabelsRead) (f : DecodeError) (x : List (List ℕ) × ℕ) → without_value o ≡ Err f → o ≡ Ok x → ⊥
+no_name_skipped (Ok y) f x h e = cc
+no_name_skipped (Err g) f x h e = cc
+
 -- one name stands at a place, and one place is behind it
 pub name_at_one : (m : List ℕ) (p e : ℕ) (n z : List (List ℕ)) (q t : ℕ) → NameAt m p e n q → NameAt m p e z t → (n ≡ z) × (q ≡ t)
 name_at_one m p e n z q t a b =

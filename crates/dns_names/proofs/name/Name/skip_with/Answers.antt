@@ -1,9 +1,8 @@
-use Rattle.std.proofs.Common.{◌≡◌, ◌≤◌, ◌∙◌, List, ℕ, length, sym, ap, refl, Result, Ok, arith}
-use Rattle.dns_wire.specs.declared.error.DecodeError.{DecodeError}
+use Rattle.std.proofs.Common.{◌≡◌, ◌≤◌, ◌∙◌, List, ℕ, length, sym, ap, refl, Ok, arith}
 use Rattle.dns_wire.specs.Reading.{octets, place}
-use Rattle.dns_names.specs.Places.{NameAt, name_at}
+use Rattle.dns_names.specs.Places.{name_at}
 use Rattle.dns_names.specs.Skipping.{without_value}
-use Rattle.dns_names.proofs.PlaceLaws.{Skipped, skipped, name_at_complete, name_at_one}
+use Rattle.dns_names.proofs.PlaceLaws.{Skipped, skipped, name_at_complete, name_at_one, no_name_skipped}
 use Rattle.dns_names.proofs.name.Name.skip_with.Goals as goal
 
 -- what was skipped in the octets of a decoder, at its place
@@ -12,9 +11,7 @@ passed m buffer p index e q within same at h = skipped m p e q within (sym (λ i
 
 pub returns-in_err-next-clause-only : goal.returns-in_err-next-clause-only
 returns-in_err-next-clause-only c n next h =
-    let read = name_at_complete _ _ _ n next h in
-    let fault = sym (λ i. without_value (name_at (c.buffer.ensures i) (c.index.ensures.place i) c.args.end)) ∙ c.in_err-next.ensures.value in
-    absurd (cc fault)
+    absurd (no_name_skipped _ _ _ (sym (λ i. without_value (name_at (c.buffer.ensures i) (c.index.ensures.place i) c.args.end)) ∙ c.in_err-next.ensures.value) (name_at_complete _ _ _ n next h))
 
 pub set_index-requires : goal.set_index-requires
 set_index-requires c =
