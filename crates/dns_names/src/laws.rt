@@ -1,7 +1,7 @@
 //! Laws of the definitions. Nothing calls these functions.
 ghost use Rattle.std.specs.Prelude.{◌≡◌, ◌↔◌, ℕ, ◌+◌, ◌≤◌, List, ◌++◌, length, slice_index};
 ghost use Rattle.dns_wire.specs.Octets.{AreOctets, lowered};
-ghost use Rattle.dns_names.specs.Names.{wire, low, IsName};
+ghost use Rattle.dns_names.specs.Names.{wire, low, IsLowered, IsName};
 ghost use Rattle.dns_names.specs.NameText.{name_text, name_from_text, Spells};
 ghost use Rattle.dns_names.specs.Places.{NameAt, pointer_target, read_octet, read_labels, name_at};
 
@@ -35,6 +35,11 @@ pub fn name_is_read_by_octets()
 /// Lowering a wire form lowers its labels alone, since no length is a letter.
 pub fn lowering_keeps_lengths()
     ensures { (n : List (List ℕ)) → IsName n → lowered (wire n) ≡ wire (low n) }
+{}
+
+/// A lowered name has no letter in upper case.
+pub fn lowered_name_is_lowered()
+    ensures { (n : List (List ℕ)) → IsLowered (low n) }
 {}
 
 /// The text of a name is read as the name.
