@@ -44,7 +44,7 @@ in_middle [] label rest all = all.0
 in_middle (x ∷ front) label rest all = in_middle front label rest all.1
 
 -- the front and one label more are no longer than the whole
-front_fits : (front : List (List ℕ)) (label : List ℕ) (rest : List (List ℕ)) → length (wire front) + length label + 1 ≤ length (wire (front ++ label ∷ rest))
+pub front_fits : (front : List (List ℕ)) (label : List ℕ) (rest : List (List ℕ)) → length (wire front) + length label + 1 ≤ length (wire (front ++ label ∷ rest))
 front_fits [] label rest = omega (arith, length-append label (wire rest), length_lt-wire rest)
 front_fits (x ∷ front) label rest = omega (arith, front_fits front label rest, length-append x (wire front), length-append x (wire (front ++ label ∷ rest)))
 
@@ -52,14 +52,19 @@ front_fits (x ∷ front) label rest = omega (arith, front_fits front label rest,
 pub next_label : (shown : List (List ℕ)) (label : List ℕ) (rest whole : List (List ℕ)) → AllByRecursion IsLabel whole → shown ++ label ∷ rest ≡ whole → IsLabel label
 next_label shown label rest whole each joined = in_middle shown label rest (subst (AllByRecursion IsLabel) (sym joined) each)
 
--- a label that was added stands last
-pub added : (n z : List (List ℕ)) (label : List ℕ) → add_label n label ≡ Ok z → z ≡ n ++ label ∷ []
-added n z label h = at (nat_eq (length label) 0) (nat_lt 255 (length (wire n) + length label + 1)) h
+-- what a label that was added says of the name
+pub record AddedLabel (n : List (List ℕ)) (label : List ℕ) (longer : List (List ℕ)) : Type 0 where
+  pub is : longer ≡ n ++ label ∷ []
+  pub nonempty : 0 < length label
+  pub fits : length (wire n) + length label + 1 ≤ 255
+
+pub added_label : (n longer : List (List ℕ)) (label : List ℕ) → add_label n label ≡ Ok longer → AddedLabel n label longer
+added_label n longer label h = at (nat_eq (length label) 0) (nat_lt 255 (length (wire n) + length label + 1)) refl refl h
   where
-    at : (none long : Bool) → cond none (Err EmptyLabel) (cond {A = Result (List (List ℕ)) NameError} long (Err NameTooLong) (Ok (n ++ label ∷ []))) ≡ Ok z → z ≡ n ++ label ∷ []
-    at true long e = absurd (cc)
-    at false true e = absurd (cc)
-    at false false e = cc
+    at : (none long : Bool) → nat_eq (length label) 0 ≡ none → nat_lt 255 (length (wire n) + length label + 1) ≡ long → cond none (Err EmptyLabel) (cond {A = Result (List (List ℕ)) NameError} long (Err NameTooLong) (Ok (n ++ label ∷ []))) ≡ Ok longer → AddedLabel n label longer
+    at true long none is_long e = absurd (cc)
+    at false true none is_long e = absurd (cc)
+    at false false none is_long e = record { is = cc; nonempty = grind (arith, nat_tests); fits = grind (arith, nat_tests) }
 
 -- a label that did not fit, and what begins with it and the labels before
 pub too_long : (shown : List (List ℕ)) (label : List ℕ) (rest whole : List (List ℕ)) (e : NameError) → IsLabel label → shown ++ label ∷ rest ≡ whole → add_label shown label ≡ Err e → (e ≡ NameTooLong) × (255 < length (wire whole))

@@ -5,5 +5,5 @@ pub mod PlaceLaws
 pub mod Written
 pub mod FromRight
 pub mod AboveBelow
-pub mod Spelled
-pub mod TextBack
+pub mod TextSteps
+pub mod TextLaws

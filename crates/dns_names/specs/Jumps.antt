@@ -1,7 +1,7 @@
 -- Where chains of pointers lead (RFC 1035 4.1.4).
-use Rattle.std.specs.Prelude.{◌≡◌, ℕ, ◌-◌, ◌≤◌, List, length, slice_index, Result, Ok, Err}
+use Rattle.std.specs.Prelude.{◌≡◌, ℕ, ◌+◌, ◌-◌, ◌≤◌, List, length, slice_index, Result, Ok, Err}
 use Rattle.dns_wire.specs.declared.error.DecodeError.{DecodeError}
-use Rattle.dns_names.specs.Places.{LabelsRead, read_labels}
+use Rattle.dns_names.specs.Places.{LabelsRead, pointer_target, read_labels}
 
 -- the labels that were read, or the fault
 abbrev pub labels_read : LabelsRead → Result (List (List ℕ)) DecodeError
@@ -14,7 +14,12 @@ pub record LeadsTo (m : List ℕ) (place target : ℕ) : Type 0 where
   pub back : target ≤ place
   pub same :
       (size : ℕ) → size ≤ 255
-      → labels_read (read_labels m place place (length m) size) ≡ labels_read (read_labels m target target (length m) size)
+      → labels_read (read_labels m place place (length m) size)
+      ≡ labels_read (read_labels m target target (length m) size)
+
+-- no pointer stands at the place that leads back, so a chain of pointers ends there
+abbrev pub IsEnd : List ℕ → ℕ → Type 0
+IsEnd m place = place + 2 ≤ length m → 192 ≤ slice_index m place → place ≤ pointer_target m place
 
 -- each number says how far its place leads back
 pub record AreJumps (m : List ℕ) (jumps : List ℕ) : Type 0 where

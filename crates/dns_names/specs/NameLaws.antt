@@ -10,7 +10,7 @@ use Rattle.std.specs.Ordering.{nat_cmp, eq_by_cmp}
 use Rattle.std.specs.Cmp.{IsTotalOrder, on_total, nat_cmp_total, unsigned_ties}
 use Rattle.std.specs.Cmp.Lexicographic.{pointwise, pointwise_decides, bytes_decides, slice_cmp, lists_total, lists_ties}
 use Rattle.dns_wire.specs.Octets.{lower, lowered, AreOctets}
-use Rattle.dns_names.specs.Names.{IsLabel, HoldsLabel, IsName, HoldsName, IsWire, padded, wire, low, same, name_cmp, labels_behind, labels_of_wire}
+use Rattle.dns_names.specs.Names.{IsLabel, HoldsLabel, IsName, HoldsName, IsWire, padded, wire, low, IsLowered, same, name_cmp, labels_behind, labels_of_wire}
 
 -- behind the octets of a label
 labels_behind_label : (label tail : List ℕ) → labels_behind (length label) (label ++ tail) ≡ labels_of_wire tail
@@ -104,6 +104,18 @@ length-wire-low (label ∷ n) = omega (arith, length-append (lowered label) (wir
 
 pub low_name : (n : List (List ℕ)) → IsName n → IsName (low n)
 low_name n h = record { each = low_labels n h.each; at_most_255 = rw (length-wire-low n) h.at_most_255 }
+
+lowered_twice : (octets : List ℕ) → lowered (lowered octets) ≡ lowered octets
+lowered_twice [] = refl
+lowered_twice (x ∷ xs) = λ i. lower_twice x i ∷ lowered_twice xs i
+  where
+    lower_twice : (x : ℕ) → lower (lower x) ≡ lower x
+    lower_twice x = grind (arith, nat_tests)
+
+-- lowering a name leaves no letter in upper case
+pub low_is_lowered : (n : List (List ℕ)) → IsLowered (low n)
+low_is_lowered [] = refl
+low_is_lowered (label ∷ n) = λ i. lowered_twice label i ∷ low_is_lowered n i
 
 lowered_zeros : (k : ℕ) → lowered (replicate k 0) ≡ replicate k 0
 lowered_zeros zero = refl

@@ -26,6 +26,10 @@ pub record IsName (labels : List (List ℕ)) : Type 0 where
 abbrev pub low : List (List ℕ) → List (List ℕ)
 low = map lowered
 
+-- no letter is in upper case
+abbrev pub IsLowered : List (List ℕ) → Type 0
+IsLowered n = low n ≡ n
+
 -- the same name, the case of ASCII letters aside (RFC 4343 3)
 abbrev pub Same : List (List ℕ) → List (List ℕ) → Type 0
 Same n z = low n ≡ low z

@@ -2,8 +2,8 @@
 //!
 //! A table of jumps has a number for each of the first places of a message, as many as it has room for: how far back the
 //! place lies whose chain of pointers says what the chain at this place says. 0 is true of each place.
-ghost use Rattle.std.specs.Prelude.{◌^◌, ◌≤◌, ◌<◌};
-ghost use Rattle.dns_names.specs.Jumps.{AreJumps, LeadsTo};
+ghost use Rattle.std.specs.Prelude.{◌≡◌, ◌^◌, ◌≤◌, ◌<◌};
+ghost use Rattle.dns_names.specs.Jumps.{AreJumps, IsEnd, LeadsTo};
 
 /// How many octets a message has at most whose table is small.
 const SHORT_MESSAGE: usize = 512;
@@ -48,6 +48,7 @@ fn hop(octets: &[u8], place: usize, jumps: &[u16]) -> usize
     requires jumps { AreJumps octets.now jumps.now }
     ensures leads { LeadsTo octets.now place result }
     ensures back { result ≤ place }
+    ensures end { result ≡ place → IsEnd octets.now place }
 {
     if place >= octets.len() || octets.len() - place < 2 {
         return place;
@@ -75,6 +76,7 @@ fn end_of_chain(octets: &[u8], first: usize, jumps: &[u16]) -> usize
     requires jumps { AreJumps octets.now jumps.now }
     ensures leads { LeadsTo octets.now first result }
     ensures back { result ≤ first }
+    ensures end { IsEnd octets.now result }
 {
     let mut place = first;
     loop {
@@ -94,6 +96,7 @@ pub(crate) fn last_of_chain(octets: &[u8], first: usize, jumps: &mut [u16]) -> u
     ensures jumps { AreJumps octets.now jumps.new }
     ensures leads { LeadsTo octets.now first result }
     ensures back { result ≤ first }
+    ensures end { IsEnd octets.now result }
 {
     let last = end_of_chain(octets, first, jumps);
     let mut place = first;

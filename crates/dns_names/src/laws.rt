@@ -1,8 +1,8 @@
 //! Laws of the definitions. Nothing calls these functions.
 ghost use Rattle.std.specs.Prelude.{◌≡◌, ◌↔◌, ℕ, ◌+◌, ◌≤◌, List, ◌++◌, length, slice_index};
 ghost use Rattle.dns_wire.specs.Octets.{AreOctets, lowered};
-ghost use Rattle.dns_names.specs.Names.{wire, low, IsName};
-ghost use Rattle.dns_names.specs.NameText.{name_text, name_from_text};
+ghost use Rattle.dns_names.specs.Names.{wire, low, IsLowered, IsName};
+ghost use Rattle.dns_names.specs.NameText.{name_text, name_from_text, Spells};
 ghost use Rattle.dns_names.specs.Places.{NameAt, pointer_target, read_octet, read_labels, name_at};
 
 /// A written name stands where it was written, whatever lies before and behind it.
@@ -37,7 +37,17 @@ pub fn lowering_keeps_lengths()
     ensures { (n : List (List ℕ)) → IsName n → lowered (wire n) ≡ wire (low n) }
 {}
 
+/// A lowered name has no letter in upper case.
+pub fn lowered_name_is_lowered()
+    ensures { (n : List (List ℕ)) → IsLowered (low n) }
+{}
+
 /// The text of a name is read as the name.
 pub fn name_text_is_read()
     ensures { (n : List (List ℕ)) → IsName n → name_from_text (name_text n) ≡ Ok n }
+{}
+
+/// A name is read from a text exactly where the text spells it.
+pub fn name_is_read_where_it_is_spelled()
+    ensures { (text : List ℕ) (n : List (List ℕ)) → (name_from_text text ≡ Ok n) ↔ (Spells text n × IsName n) }
 {}

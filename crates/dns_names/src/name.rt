@@ -16,13 +16,16 @@ use dns_wire::{BinEncodable, BinEncoder, EmitError, NameEncoding, NameError};
 use std::hash::{Hash, Hasher};
 use std::marker::Model;
 
+/// How many octets the wire form of a name has at most (RFC 1035 2.3.4).
+const MAX_NAME: usize = 255;
+
 /// A domain name: labels of 1 to 63 octets, at most 255 octets on the wire (RFC 1035 3.1).
 ///
 /// A contract sees the list of its labels, leftmost first. Equality, hash and order put the case of ASCII letters aside.
 /// The clause `is_name` of a getter says what every name keeps to.
 #[derive(Clone, Copy)]
 pub struct Name {
-    octets: [u8; 255],
+    octets: [u8; MAX_NAME],
     len: u8,
 }
 
@@ -48,7 +51,7 @@ impl Name {
         ensures { result ≡ [] }
     {
         Name {
-            octets: [0; 255],
+            octets: [0; MAX_NAME],
             len: 1,
         }
     }
@@ -151,7 +154,7 @@ impl Name {
         ensures is_name { IsName result }
     {
         let wire = labels.rest;
-        let mut octets = [0; 255];
+        let mut octets = [0; MAX_NAME];
         octets[..wire.len()].copy_from_slice(wire);
         Name {
             octets,
@@ -195,14 +198,11 @@ impl BinEncodable for Name {
     }
 }
 
-/// How many octets a wire form has at most (RFC 1035 2.3.4).
-const MAX_WIRE_FORM: usize = 255;
-
 /// Whether a wire form of `size` octets has room for one more label, of `label` octets.
 pub(crate) fn has_room(size: usize, label: usize) -> bool
     ensures { IsTrue result ↔ (size + label + 1 ≤ 255) }
 {
-    label < MAX_WIRE_FORM.saturating_sub(size)
+    label < MAX_NAME.saturating_sub(size)
 }
 
 /// The labels of a name that are left, leftmost first.

@@ -1,7 +1,7 @@
 use Rattle.std.proofs.Common.{◌≡◌, ◌<◌, ◌+◌, ◌∷◌, ◌++◌, List, ℕ, [], take, drop, get_or, ap, ◌∙◌, sym, length, add-one, drop-cons}
 use Rattle.std.proofs.lemmas.Result.{err_from_is_err_and}
 use Rattle.std.proofs.lemmas.List.{take_more, take-append-drop}
-use Rattle.dns_names.proofs.AboveBelow.{added, too_long}
+use Rattle.dns_names.proofs.AboveBelow.{added_label, too_long}
 use Rattle.dns_names.proofs.name.Name.from_labels.Goals as goal
 
 -- the labels before one, the label, and those behind it
@@ -19,4 +19,4 @@ returns-in_err-add_label c =
 pub loop-label-preserved : goal.loop-label-preserved
 loop-label-preserved c =
     let more : take (c.loop-label.label-index + 1) c.args.labels.now ≡ take c.loop-label.label-index c.args.labels.now ++ get_or c.args.labels.now c.loop-label.label-index c.label-item.result ∷ [] = take_more _ _ _ c.loop-label-test.true in
-    (added _ _ _ c.in_ok-add_label.ensures.0 ∙ (λ i. c.loop-label.invariant.0 i ++ (c.as_slice.ensures.value ∙ c.label-item.is) i ∷ []) ∙ sym more, c.in_ok-add_label.ensures.1)
+    ((added_label _ _ _ c.in_ok-add_label.ensures.0).is ∙ (λ i. c.loop-label.invariant.0 i ++ (c.as_slice.ensures.value ∙ c.label-item.is) i ∷ []) ∙ sym more, c.in_ok-add_label.ensures.1)
