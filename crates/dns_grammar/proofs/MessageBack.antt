@@ -1,5 +1,6 @@
 -- What is written of a message is read as the same message.
-use Rattle.std.proofs.Common.{◌≡◌, inr, ℕ, ◌+◌, ◌^◌, ◌≤◌, ◌<◌, Bool, true, false, cond, eqb, ltb, List, [], ◌∷◌, ◌++◌, length, map, Result, Ok, Err}
+use Rattle.std.proofs.Common.{◌≡◌, inr, ℕ, ◌+◌, ◌^◌, ◌≤◌, ◌<◌, Bool, true, false, cond, eqb, ltb, List, [], ◌∷◌, ◌++◌}
+use Rattle.std.proofs.Common.{length, map, Result, Ok, Err}
 use Rattle.std.proofs.Common.{refl, sym, ap, subst, ◌∙◌, arith, length-append, append_assoc}
 use Rattle.std.proofs.lemmas.Bool.{ltb-false, le-ltb}
 use Rattle.std.proofs.lemmas.List.{append-nil}
@@ -13,31 +14,45 @@ use Rattle.dns_wire.specs.Reading.{◌>>=◌, each_at}
 use Rattle.dns_names.specs.Names.{wire}
 use Rattle.dns_grammar.specs.Fields.{Two, Table, joined, each_octets}
 use Rattle.dns_grammar.specs.Messages.{Header, Query, ResourceRecord, Message, records, before_last, NotTsig, IsCounted}
-use Rattle.dns_grammar.specs.Messages.{header_at, query_at, record_at, queries_at, records_at, additionals_at, body_at, message_at}
+use Rattle.dns_grammar.specs.Messages.{header_at, query_at, record_at, queries_at, records_at, additionals_at, body_at}
+use Rattle.dns_grammar.specs.Messages.{message_at}
 use Rattle.dns_grammar.specs.MessageWriting.{count_octets, header_octets, query_octets, record_octets}
-use Rattle.dns_grammar.specs.Laws.{IsQuery, IsRecord, IsMessage, unplaced_record, unplaced, read_unplaced, WrittenMessageIsRead}
+use Rattle.dns_grammar.specs.Laws.{IsQuery, IsRecord, IsMessage, unplaced_record, unplaced, read_unplaced}
+use Rattle.dns_grammar.specs.Laws.{WrittenMessageIsRead}
 use Rattle.dns_grammar.proofs.ReadBack.{ok_octets, joins}
 use Rattle.dns_grammar.proofs.RecordBack.{GoesOn, behind, number_here, name_here, record_goes}
 use Rattle.dns_grammar.proofs.MessageLaws.{its_place, before_less}
 
 -- the octets y and then the others
-split_here : (m : List ℕ) (p : ℕ) (x y z back : List ℕ) → x ++ y ≡ z → GoesOn m p (z ++ back) → GoesOn m p (x ++ (y ++ back))
+split_here : (m : List ℕ) (p : ℕ) (x y z back : List ℕ) → x ++ y ≡ z → GoesOn m p (z ++ back)
+    → GoesOn m p (x ++ (y ++ back))
 split_here m p x y z back whole h =
-    record { front = h.front; is = h.is ∙ ap (λ (t : List ℕ). h.front ++ t) (ap (λ (t : List ℕ). t ++ back) (sym whole) ∙ append_assoc x y back); long = h.long }
+    record {
+      front = h.front;
+      is = h.is ∙ ap (λ (t : List ℕ). h.front ++ t) (ap (λ (t : List ℕ). t ++ back) (sym whole)
+          ∙ append_assoc x y back);
+      long = h.long;
+    }
 
 -- ---- questions
 
-query_goes : (query : Query) (m : List ℕ) (p : ℕ) (y back : List ℕ) → IsQuery query → query_octets Uncompressed query ≡ Ok y → GoesOn m p (y ++ back)
+query_goes : (query : Query) (m : List ℕ) (p : ℕ) (y back : List ℕ) → IsQuery query
+    → query_octets Uncompressed query ≡ Ok y → GoesOn m p (y ++ back)
     → query_at m p ≡ Ok (query, p + length y)
 unfolding query_at
 query_goes query m p y back can is h =
     let name : List ℕ = wire query.name in
     let whole : name ++ (two_octets query.query_type ++ two_octets query.query_class) ≡ y = ok_octets _ y is in
     let a = split_here m p name (two_octets query.query_type ++ two_octets query.query_class) y back whole h in
-    let b = split_here m (p + length name) (two_octets query.query_type) (two_octets query.query_class) _ back refl (behind m p name _ a) in
+    let b = split_here m (p + length name) (two_octets query.query_type) (two_octets query.query_class) _ back refl
+    (behind m p name _ a) in
     let c = behind m (p + length name) (two_octets query.query_type) _ b in
     let long : length y ≡ length name + 2 + 2 =
-    ap length (sym whole) ∙ omega (arith, length-append name (two_octets query.query_type ++ two_octets query.query_class)) in
+    ap length (sym whole) ∙ omega (
+      arith,
+      length-append name
+          (two_octets query.query_type ++ two_octets query.query_class),
+    ) in
     let end : p + length name + 2 + 2 ≡ p + length y = omega (arith, long) in
     rw (
       name_here query.name m p _ can.name a,
@@ -45,7 +60,8 @@ query_goes query m p y back can is h =
       number_here Two query.query_class m (p + length name + 2) _ can.query_class c,
     ) (ap (λ (k : ℕ). let ok : Result (Query × ℕ) DecodeError = Ok (query, k) in ok) end)
 
-queries_go : (queries : List Query) (m : List ℕ) (p : ℕ) (y back : List ℕ) → AllByRecursion IsQuery queries → each_octets (query_octets Uncompressed) queries ≡ Ok y
+queries_go : (queries : List Query) (m : List ℕ) (p : ℕ) (y back : List ℕ) → AllByRecursion IsQuery queries
+    → each_octets (query_octets Uncompressed) queries ≡ Ok y
     → GoesOn m p (y ++ back) → queries_at (length queries) m p ≡ Ok (queries, p + length y)
 unfolding each_at
 queries_go [] m p y back all is h =
@@ -64,7 +80,8 @@ queries_go (x ∷ xs) m p y back all is h =
 -- ---- records
 
 -- these records are read, the places where they start aside, up to q
-record ReadsThem (read : Result (List ResourceRecord × ℕ) DecodeError) (rrs : List ResourceRecord) (q : ℕ) : Type 0 where
+record ReadsThem (read : Result (List ResourceRecord × ℕ) DecodeError) (rrs : List ResourceRecord)
+    (q : ℕ) : Type 0 where
   pub found : List ResourceRecord
   pub is : read ≡ Ok (found, q)
   pub same : map unplaced_record found ≡ map unplaced_record rrs
@@ -75,25 +92,36 @@ octets_of table = each_octets (record_octets false Uncompressed table)
 reads_none : (p : ℕ) (y : List ℕ) → octets_of [] [] ≡ Ok y → ReadsThem (Ok ([], p)) [] (p + length y)
 reads_none p y is =
     let none : length y ≡ 0 = ap length (sym (ok_octets [] y is)) in
-    record { found = []; is = ap (λ (k : ℕ). let ok : Result (List ResourceRecord × ℕ) DecodeError = Ok ([], k) in ok) (omega (arith, none)); same = refl }
+    record {
+      found = [];
+      is = ap (λ (k : ℕ). let ok : Result (List ResourceRecord × ℕ) DecodeError = Ok ([], k) in ok)
+          (omega (arith, none));
+      same = refl;
+    }
 
 -- one record, and those behind it
-abbrev one_and_rest : Result (ResourceRecord × ℕ) DecodeError → (ℕ → Result (List ResourceRecord × ℕ) DecodeError) → Result (List ResourceRecord × ℕ) DecodeError
+abbrev one_and_rest : Result (ResourceRecord × ℕ) DecodeError → (ℕ → Result (List ResourceRecord × ℕ) DecodeError)
+    → Result (List ResourceRecord × ℕ) DecodeError
 one_and_rest first rest = do
   rr ← first
   rrs ← rest rr.1
   Ok (rr.0 ∷ rrs.0, rrs.1)
 
-reads_more : (first : Result (ResourceRecord × ℕ) DecodeError) (rest : ℕ → Result (List ResourceRecord × ℕ) DecodeError) (rr : ResourceRecord) (rrs : List ResourceRecord) (p q e e1 : ℕ)
-    → first ≡ Ok (record rr { start = p }, q) → ReadsThem (rest q) rrs e → e ≡ e1 → ReadsThem (one_and_rest first rest) (rr ∷ rrs) e1
+reads_more : (first : Result (ResourceRecord × ℕ) DecodeError) (rest : ℕ
+    → Result (List ResourceRecord × ℕ) DecodeError) (rr : ResourceRecord) (rrs : List ResourceRecord) (p q e e1 : ℕ)
+    → first ≡ Ok (record rr { start = p }, q) → ReadsThem (rest q) rrs e → e ≡ e1
+    → ReadsThem (one_and_rest first rest) (rr ∷ rrs) e1
 reads_more first rest rr rrs p q e e1 one behind same = record {
   found = record rr { start = p } ∷ behind.found;
-  is = rw (one, behind.is) (ap (λ (k : ℕ). let ok : Result (List ResourceRecord × ℕ) DecodeError = Ok (record rr { start = p } ∷ behind.found, k) in ok) same);
+  is = rw (one, behind.is) (ap (λ (k : ℕ). let ok : Result (List ResourceRecord × ℕ) DecodeError = Ok
+      (record rr { start = p } ∷ behind.found, k) in ok) same);
   same = ap (λ l. unplaced_record rr ∷ l) behind.same;
 }
 
-records_go : (table : Table) (rrs : List ResourceRecord) (m : List ℕ) (p : ℕ) (y back : List ℕ) → AllByRecursion (IsRecord table) rrs → AllByRecursion NotTsig rrs
-    → octets_of table rrs ≡ Ok y → GoesOn m p (y ++ back) → ReadsThem (records_at table (length rrs) m p) rrs (p + length y)
+records_go : (table : Table) (rrs : List ResourceRecord) (m : List ℕ) (p : ℕ) (y back : List ℕ)
+    → AllByRecursion (IsRecord table) rrs → AllByRecursion NotTsig rrs
+    → octets_of table rrs ≡ Ok y → GoesOn m p (y ++ back)
+    → ReadsThem (records_at table (length rrs) m p) rrs (p + length y)
 unfolding each_at
 records_go table [] m p y back all others is h = reads_none p y is
 records_go table (x ∷ xs) m p y back all others is h =
@@ -101,12 +129,16 @@ records_go table (x ∷ xs) m p y back all others is h =
     let a = split_here m p j.first j.second y back j.whole h in
     let long : length y ≡ length j.first + length j.second = ap length (sym j.whole) ∙ length-append j.first j.second in
     let one = record_goes table false x j.first m p (j.second ++ back) all.0 (inr others.0) j.first_is a in
-    let rest = records_go table xs m (p + length j.first) j.second back all.1 others.1 j.second_is (behind m p j.first _ a) in
-    reads_more (record_at table false m p) (λ q. records_at table (length xs) m q) x xs p (p + length j.first) (p + length j.first + length j.second) (p + length y)
+    let rest = records_go table xs m (p + length j.first) j.second back all.1 others.1 j.second_is
+    (behind m p j.first _ a) in
+    reads_more (record_at table false m p) (λ q. records_at table (length xs) m q) x xs p (p + length j.first)
+    (p + length j.first + length j.second) (p + length y)
     one rest (omega (arith, long))
 
-additionals_go : (table : Table) (rrs : List ResourceRecord) (m : List ℕ) (p : ℕ) (y back : List ℕ) → AllByRecursion (IsRecord table) rrs
-    → AllByRecursion NotTsig (before_last rrs) → octets_of table rrs ≡ Ok y → GoesOn m p (y ++ back) → ReadsThem (additionals_at table (length rrs) m p) rrs (p + length y)
+additionals_go : (table : Table) (rrs : List ResourceRecord) (m : List ℕ) (p : ℕ) (y back : List ℕ)
+    → AllByRecursion (IsRecord table) rrs
+    → AllByRecursion NotTsig (before_last rrs) → octets_of table rrs ≡ Ok y → GoesOn m p (y ++ back)
+    → ReadsThem (additionals_at table (length rrs) m p) rrs (p + length y)
 unfolding additionals_at
 additionals_go table [] m p y back all others is h = reads_none p y is
 additionals_go table (x ∷ xs) m p y back all others is h =
@@ -115,8 +147,10 @@ additionals_go table (x ∷ xs) m p y back all others is h =
     let long : length y ≡ length j.first + length j.second = ap length (sym j.whole) ∙ length-append j.first j.second in
     let is_last : Bool = eqb (length xs) 0 in
     let one = record_goes table is_last x j.first m p (j.second ++ back) all.0 (its_place x xs others) j.first_is a in
-    let rest = additionals_go table xs m (p + length j.first) j.second back all.1 (before_less NotTsig x xs others) j.second_is (behind m p j.first _ a) in
-    reads_more (record_at table is_last m p) (λ q. additionals_at table (length xs) m q) x xs p (p + length j.first) (p + length j.first + length j.second) (p + length y)
+    let rest = additionals_go table xs m (p + length j.first) j.second back all.1
+    (before_less NotTsig x xs others) j.second_is (behind m p j.first _ a) in
+    reads_more (record_at table is_last m p) (λ q. additionals_at table (length xs) m q) x xs p (p + length j.first)
+    (p + length j.first + length j.second) (p + length y)
     one rest (omega (arith, long))
 
 -- ---- the header
@@ -128,7 +162,8 @@ record Counts {A : Type 0} (xs : List A) (y : List ℕ) : Type 0 where
 counts : {A : Type 0} (xs : List A) (y : List ℕ) → count_octets xs ≡ Ok y → Counts xs y
 counts xs y is = go (ltb 65535 (length xs)) refl is
   where
-    go : (b : Bool) → ltb 65535 (length xs) ≡ b → cond b (Err CountTooLarge) (Ok (two_octets (length xs))) ≡ Ok y → Counts xs y
+    go : (b : Bool) → ltb 65535 (length xs) ≡ b → cond b (Err CountTooLarge) (Ok (two_octets (length xs))) ≡ Ok y
+        → Counts xs y
     go true test h = absurd cc
     go false test h = record { below = ltb-false _ _ test; is = ok_octets _ y h }
 
@@ -187,7 +222,8 @@ counted message = record {
   additionals = length message.additionals;
 }
 
-header_goes : (message : Message) (m y back : List ℕ) → message.header.id < 2 ^ 16 → message.header.flags < 2 ^ 16 → IsHeader message y → GoesOn m 0 (y ++ back)
+header_goes : (message : Message) (m y back : List ℕ) → message.header.id < 2 ^ 16 → message.header.flags < 2 ^ 16
+    → IsHeader message y → GoesOn m 0 (y ++ back)
     → header_at m ≡ Ok (counted message, 12)
 unfolding header_at
 header_goes message m y back id flags is h =
@@ -200,7 +236,8 @@ header_goes message m y back id flags is h =
     let n : List ℕ = two_octets (length message.authorities) in
     let e : List ℕ = two_octets (length message.additionals) in
     let b = split_here m 0 id_octets (flags_octets ++ (q ++ (r ++ (n ++ e)))) (header_pieces message) back refl a in
-    let c = split_here m 2 flags_octets (q ++ (r ++ (n ++ e))) (flags_octets ++ (q ++ (r ++ (n ++ e)))) back refl (behind m 0 id_octets _ b) in
+    let c = split_here m 2 flags_octets (q ++ (r ++ (n ++ e))) (flags_octets ++ (q ++ (r ++ (n ++ e)))) back refl
+    (behind m 0 id_octets _ b) in
     let d = split_here m 4 q (r ++ (n ++ e)) (q ++ (r ++ (n ++ e))) back refl (behind m 2 flags_octets _ c) in
     let f = split_here m 6 r (n ++ e) (r ++ (n ++ e)) back refl (behind m 4 q _ d) in
     let g = split_here m 8 n e (n ++ e) back refl (behind m 6 r _ f) in
@@ -217,7 +254,8 @@ header_goes message m y back id flags is h =
 -- ---- the whole
 
 -- what holds of each of two lists
-both_all : {A : Type 0} (P : A → Type 0) (xs ys : List A) → AllByRecursion P (xs ++ ys) → AllByRecursion P xs × AllByRecursion P ys
+both_all : {A : Type 0} (P : A → Type 0) (xs ys : List A) → AllByRecursion P (xs ++ ys)
+    → AllByRecursion P xs × AllByRecursion P ys
 both_all P [] ys h = (tt, h)
 both_all P (x ∷ xs) ys h = let rest = both_all P xs ys h.1 in ((h.0, rest.0), rest.1)
 
@@ -226,12 +264,14 @@ joined_nil (Ok x) = refl
 joined_nil (Err e) = refl
 
 joined_more : (a b c : Result (List ℕ) EmitError) → joined a (joined b c) ≡ joined (joined a b) c
-joined_more (Ok x) (Ok y) (Ok z) = ap (λ (l : List ℕ). let ok : Result (List ℕ) EmitError = Ok l in ok) (sym (append_assoc x y z))
+joined_more (Ok x) (Ok y) (Ok z) = ap (λ (l : List ℕ). let ok : Result (List ℕ) EmitError = Ok l in ok)
+    (sym (append_assoc x y z))
 joined_more (Ok x) (Ok y) (Err e) = refl
 joined_more (Ok x) (Err e) c = refl
 joined_more (Err e) b c = refl
 
-octets-append : (table : Table) (xs ys : List ResourceRecord) → octets_of table (xs ++ ys) ≡ joined (octets_of table xs) (octets_of table ys)
+octets-append : (table : Table) (xs ys : List ResourceRecord)
+    → octets_of table (xs ++ ys) ≡ joined (octets_of table xs) (octets_of table ys)
 octets-append table [] ys = sym (joined_nil (octets_of table ys))
 octets-append table (x ∷ xs) ys =
     ap (joined (record_octets false Uncompressed table x)) (octets-append table xs ys)
@@ -265,7 +305,8 @@ record Pieces (table : Table) (message : Message) (m : List ℕ) (e : ℕ) : Typ
   pub goes : GoesOn m 12 (questions ++ (answers ++ (authorities ++ additionals)))
   pub end : 12 + length questions + length answers + length authorities + length additionals ≡ e
 
-body_goes : (table : Table) (message : Message) (m : List ℕ) (e : ℕ) → IsMessage table message → Pieces table message m e
+body_goes : (table : Table) (message : Message) (m : List ℕ) (e : ℕ) → IsMessage table message
+    → Pieces table message m e
     → read_unplaced (body_at table m (counted message) 12) ≡ Ok (unplaced message, e)
 unfolding body_at
 body_goes table message m e can is =
@@ -278,10 +319,14 @@ body_goes table message m e can is =
     let from_authorities = behind m q is.answers _ from_answers in
     let from_additionals = behind m a is.authorities _ from_authorities in
     let queries = queries_go message.queries m 12 is.questions _ can.each_query is.questions_are is.goes in
-    let answers = records_go table message.answers m q is.answers _ answers_all.0 can.tsig_is_last.answers is.answers_are from_answers in
-    let authorities = records_go table message.authorities m a is.authorities _ others_all.0 can.tsig_is_last.authorities is.authorities_are from_authorities in
-    let last : GoesOn m n (is.additionals ++ []) = subst (λ t. GoesOn m n t) (sym (append-nil is.additionals)) from_additionals in
-    let additionals = additionals_go table message.additionals m n is.additionals [] others_all.1 can.tsig_is_last.additionals is.additionals_are last in
+    let answers = records_go table message.answers m q is.answers _ answers_all.0 can.tsig_is_last.answers
+    is.answers_are from_answers in
+    let authorities = records_go table message.authorities m a is.authorities _ others_all.0
+    can.tsig_is_last.authorities is.authorities_are from_authorities in
+    let last : GoesOn m n (is.additionals ++ []) = subst (λ t. GoesOn m n t)
+    (sym (append-nil is.additionals)) from_additionals in
+    let additionals = additionals_go table message.additionals m n is.additionals [] others_all.1
+    can.tsig_is_last.additionals is.additionals_are last in
     rw (queries, answers.is, authorities.is, additionals.is) (λ i.
     message_and (
     record {
@@ -297,9 +342,12 @@ pub written_message : (table : Table) → WrittenMessageIsRead table
 unfolding message_at
 written_message table message x can is at_most =
     let h = joins (header_octets message) _ x is in
-    let q = joins (each_octets (query_octets Uncompressed) message.queries) (octets_of table (records message)) h.second h.second_is in
-    let records_are = sym (octets-append table message.answers (message.authorities ++ message.additionals)) ∙ q.second_is in
-    let a = joins (octets_of table message.answers) (octets_of table (message.authorities ++ message.additionals)) q.second records_are in
+    let q = joins (each_octets (query_octets Uncompressed) message.queries)
+    (octets_of table (records message)) h.second h.second_is in
+    let records_are = sym (octets-append table message.answers (message.authorities ++ message.additionals))
+    ∙ q.second_is in
+    let a = joins (octets_of table message.answers)
+    (octets_of table (message.authorities ++ message.additionals)) q.second records_are in
     let others_are = sym (octets-append table message.authorities message.additionals) ∙ a.second_is in
     let n = joins (octets_of table message.authorities) (octets_of table message.additionals) a.second others_are in
     let header = is_header message h.first h.first_is in
@@ -317,7 +365,8 @@ written_message table message x can is at_most =
       answers_are = a.first_is;
       authorities_are = n.first_is;
       additionals_are = n.second_is;
-      goes = subst (λ t. GoesOn x 12 t) behind_header (subst (λ k. GoesOn x k h.second) twelve (behind x 0 h.first h.second goes));
+      goes = subst (λ t. GoesOn x 12 t) behind_header
+          (subst (λ k. GoesOn x k h.second) twelve (behind x 0 h.first h.second goes));
       end = omega (
         arith,
         twelve,
@@ -330,4 +379,5 @@ written_message table message x can is at_most =
       );
     } in
     let short : ltb 65535 (length x) ≡ false = le-ltb _ _ at_most in
-    rw (short, header_goes message x h.first h.second can.id can.flags header goes) (body_goes table message x (length x) can pieces)
+    rw (short, header_goes message x h.first h.second can.id can.flags header goes)
+    (body_goes table message x (length x) can pieces)

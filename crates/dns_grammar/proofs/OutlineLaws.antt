@@ -1,13 +1,16 @@
 -- The outline of a message, read part by part with no list.
-use Rattle.std.proofs.Common.{◌≡◌, ℕ, zero, suc, true, false, eqb, List, [], ◌∷◌, ◌++◌, Option, None, option_and_then, Result, Ok, Err}
+use Rattle.std.proofs.Common.{◌≡◌, ℕ, zero, suc, true, false, eqb, List, [], ◌∷◌, ◌++◌, Option, None, option_and_then}
+use Rattle.std.proofs.Common.{Result, Ok, Err}
 use Rattle.std.proofs.Common.{refl, ap, ◌∙◌, arith}
 use Rattle.std.proofs.lemmas.Bool.{ne_eqb}
 use Rattle.dns_wire.specs.declared.error.DecodeError.{DecodeError}
 use Rattle.dns_wire.specs.Reading.{◌>>=◌, each_at}
 use Rattle.dns_grammar.specs.Fields.{Table}
 use Rattle.dns_names.specs.Skipping.{without_value}
-use Rattle.dns_grammar.specs.Messages.{Header, Query, ResourceRecord, Message, last_of, Signature, signature_from, Outline, outline_of}
-use Rattle.dns_grammar.specs.Messages.{record_at, queries_at, records_at, additionals_at, body_at, sized_header_at, message_at}
+use Rattle.dns_grammar.specs.Messages.{Header, Query, ResourceRecord, Message, last_of, Signature, signature_from}
+use Rattle.dns_grammar.specs.Messages.{Outline, outline_of}
+use Rattle.dns_grammar.specs.Messages.{record_at, queries_at, records_at, additionals_at, body_at, sized_header_at}
+use Rattle.dns_grammar.specs.Messages.{message_at}
 use Rattle.dns_grammar.proofs.EachLaws.{last_of-more}
 
 -- the outline of a message that is read, and the place behind it
@@ -20,7 +23,8 @@ outlined read = read >>= λ x. Ok (outline_of x.0, x.1)
 abbrev with_more : List ResourceRecord → ResourceRecord × ℕ → Result (List ResourceRecord × ℕ) DecodeError
 with_more others rr = Ok (others ++ rr.0 ∷ [], rr.1)
 
-abbrev last_behind : Table → List ℕ → Result (List ResourceRecord × ℕ) DecodeError → Result (List ResourceRecord × ℕ) DecodeError
+abbrev last_behind : Table → List ℕ → Result (List ResourceRecord × ℕ) DecodeError
+    → Result (List ResourceRecord × ℕ) DecodeError
 last_behind table m others = others >>= λ xs. record_at table true m xs.1 >>= with_more xs.0
 
 -- a record before those that are read
@@ -32,7 +36,8 @@ with_more_before : (rr : ResourceRecord) (others : List ResourceRecord) (last : 
 with_more_before rr others (Ok x) = refl
 with_more_before rr others (Err e) = refl
 
-others_before : (table : Table) (m : List ℕ) (rr : ResourceRecord) (others : Result (List ResourceRecord × ℕ) DecodeError)
+others_before : (table : Table) (m : List ℕ) (rr : ResourceRecord)
+    (others : Result (List ResourceRecord × ℕ) DecodeError)
     → (last_behind table m others >>= before_them rr) ≡ last_behind table m (others >>= before_them rr)
 others_before table m rr (Ok xs) = with_more_before rr xs.0 (record_at table true m xs.1)
 others_before table m rr (Err e) = refl
@@ -41,10 +46,12 @@ first_before : (table : Table) (n : ℕ) (m : List ℕ) (first : Result (Resourc
     → ((p : ℕ) → additionals_at table (suc n) m p ≡ last_behind table m (records_at table n m p))
     → (first >>= λ rr. additionals_at table (suc n) m rr.1 >>= before_them rr.0)
     ≡ last_behind table m (first >>= λ rr. records_at table n m rr.1 >>= before_them rr.0)
-first_before table n m (Ok rr) same = ap (λ r. r >>= before_them rr.0) (same rr.1) ∙ others_before table m rr.0 (records_at table n m rr.1)
+first_before table n m (Ok rr) same = ap (λ r. r >>= before_them rr.0) (same rr.1)
+    ∙ others_before table m rr.0 (records_at table n m rr.1)
 first_before table n m (Err e) same = refl
 
-pub additionals_split : (table : Table) (n : ℕ) (m : List ℕ) (p : ℕ) → additionals_at table (suc n) m p ≡ last_behind table m (records_at table n m p)
+pub additionals_split : (table : Table) (n : ℕ) (m : List ℕ) (p : ℕ)
+    → additionals_at table (suc n) m p ≡ last_behind table m (records_at table n m p)
 unfolding additionals_at each_at
 additionals_split table zero m p = refl
 additionals_split table (suc n) m p =
@@ -67,19 +74,23 @@ last_signed : (table : Table) (m : List ℕ) (others : Result (List ResourceReco
 last_signed table m (Ok xs) = go (record_at table true m xs.1)
   where
     go : (last : Result (ResourceRecord × ℕ) DecodeError) → signed (last >>= with_more xs.0) ≡ as_signature last
-    go (Ok rr) = ap (λ (o : Option ResourceRecord). let ok : Result (Option Signature × ℕ) DecodeError = Ok (option_and_then signature_from o, rr.1) in ok) (last_of-more xs.0 rr.0)
+    go (Ok rr) = ap (λ (o : Option ResourceRecord). let ok : Result (Option Signature × ℕ) DecodeError = Ok
+        (option_and_then signature_from o, rr.1) in ok) (last_of-more xs.0 rr.0)
     go (Err e) = refl
 last_signed table m (Err e) = refl
 
 -- the signature among n additionals from p
 unfoldable pub signature_at : Table → ℕ → List ℕ → ℕ → Result (Option Signature × ℕ) DecodeError
 signature_at table zero m p = Ok (None, p)
-signature_at table (suc n) m p = without_value (records_at table n m p) >>= λ others. as_signature (record_at table true m others.1)
+signature_at table (suc n) m p = without_value (records_at table n m p)
+    >>= λ others. as_signature (record_at table true m others.1)
 
-pub signature_is_last : (table : Table) (n : ℕ) (m : List ℕ) (p : ℕ) → signed (additionals_at table n m p) ≡ signature_at table n m p
+pub signature_is_last : (table : Table) (n : ℕ) (m : List ℕ) (p : ℕ)
+    → signed (additionals_at table n m p) ≡ signature_at table n m p
 unfolding signature_at additionals_at
 signature_is_last table zero m p = refl
-signature_is_last table (suc n) m p = ap signed (additionals_split table n m p) ∙ last_signed table m (records_at table n m p)
+signature_is_last table (suc n) m p = ap signed (additionals_split table n m p)
+    ∙ last_signed table m (records_at table n m p)
 
 -- ---- the outline
 
@@ -93,8 +104,10 @@ outline_behind table m header p = do
   Ok (record { header = header; signature = signature.0 }, signature.1)
 
 -- a step of which only the place is kept
-by_place : {A B C : Type 0} (first : Result (A × ℕ) DecodeError) (short : Unit {0} × ℕ → Result C DecodeError) (long : A × ℕ → Result B DecodeError) (view : B → Result C DecodeError)
-    → ((x : A) (q : ℕ) → (long (x, q) >>= view) ≡ short (tt, q)) → ((first >>= long) >>= view) ≡ (without_value first >>= short)
+by_place : {A B C : Type 0} (first : Result (A × ℕ) DecodeError) (short : Unit {0} × ℕ
+    → Result C DecodeError) (long : A × ℕ → Result B DecodeError) (view : B → Result C DecodeError)
+    → ((x : A) (q : ℕ) → (long (x, q) >>= view) ≡ short (tt, q))
+    → ((first >>= long) >>= view) ≡ (without_value first >>= short)
 by_place (Ok x) short long view h = h x.0 x.1
 by_place (Err e) short long view h = refl
 
@@ -104,16 +117,30 @@ seen x = Ok (outline_of x.0, x.1)
 abbrev short_end : Header → Option Signature × ℕ → Result (Outline × ℕ) DecodeError
 short_end header signature = Ok (record { header = header; signature = signature.0 }, signature.1)
 
-abbrev long_end : Header → List Query → List ResourceRecord → List ResourceRecord → List ResourceRecord × ℕ → Result (Message × ℕ) DecodeError
+abbrev long_end : Header → List Query → List ResourceRecord → List ResourceRecord → List ResourceRecord × ℕ
+    → Result (Message × ℕ) DecodeError
 long_end header queries answers authorities additionals =
-    Ok (record { header = header; queries = queries; answers = answers; authorities = authorities; additionals = additionals.0 }, additionals.1)
+    Ok (
+      record {
+        header = header;
+        queries = queries;
+        answers = answers;
+        authorities = authorities;
+        additionals =
+            additionals.0;
+      },
+      additionals.1,
+    )
 
-at_last : (header : Header) (queries : List Query) (answers authorities : List ResourceRecord) (additionals : Result (List ResourceRecord × ℕ) DecodeError)
-    → ((additionals >>= long_end header queries answers authorities) >>= seen) ≡ (signed additionals >>= short_end header)
+at_last : (header : Header) (queries : List Query) (answers authorities : List ResourceRecord)
+    (additionals : Result (List ResourceRecord × ℕ) DecodeError)
+    → ((additionals >>= long_end header queries answers authorities) >>= seen)
+    ≡ (signed additionals >>= short_end header)
 at_last header queries answers authorities (Ok x) = refl
 at_last header queries answers authorities (Err e) = refl
 
-pub outline_is_behind : (table : Table) (m : List ℕ) (header : Header) (p : ℕ) → outlined (body_at table m header p) ≡ outline_behind table m header p
+pub outline_is_behind : (table : Table) (m : List ℕ) (header : Header) (p : ℕ)
+    → outlined (body_at table m header p) ≡ outline_behind table m header p
 unfolding outline_behind body_at
 outline_is_behind table m header p =
     by_place (queries_at header.questions m p) _ _ seen (λ queries q.
@@ -122,12 +149,14 @@ outline_is_behind table m header p =
     at_last header queries answers authorities (additionals_at table header.additionals m n)
     ∙ ap (λ r. r >>= short_end header) (signature_is_last table header.additionals m n))))
 
-by_header : (first : Result (Header × ℕ) DecodeError) (long : Header × ℕ → Result (Message × ℕ) DecodeError) (short : Header × ℕ → Result (Outline × ℕ) DecodeError)
+by_header : (first : Result (Header × ℕ) DecodeError) (long : Header × ℕ
+    → Result (Message × ℕ) DecodeError) (short : Header × ℕ → Result (Outline × ℕ) DecodeError)
     → ((x : Header × ℕ) → outlined (long x) ≡ short x) → outlined (first >>= long) ≡ (first >>= short)
 by_header (Ok x) long short h = h x
 by_header (Err e) long short h = refl
 
 -- The outline of a message that is read is read part by part.
-pub outline_is : (table : Table) (m : List ℕ) → outlined (message_at table m) ≡ (sized_header_at m >>= λ header. outline_behind table m header.0 header.1)
+pub outline_is : (table : Table) (m : List ℕ) → outlined (message_at table m)
+    ≡ (sized_header_at m >>= λ header. outline_behind table m header.0 header.1)
 unfolding message_at
 outline_is table m = by_header (sized_header_at m) _ _ (λ x. outline_is_behind table m x.0 x.1)

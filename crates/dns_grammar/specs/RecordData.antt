@@ -57,8 +57,8 @@ one_type_data_at fields m p len =
 abbrev pub is_empty_at : List ℕ → ℕ → ℕ → ℕ → Bool
 is_empty_at m p len rtype = nat_eq len 0 && (not (nat_eq rtype tsig_type) && nat_le p (length m))
 
--- What reading the data of a record of this type gives, len octets from p, and the place behind them; or the first fault.
--- Every type but TSIG may have no data. Otherwise they are read as the data of their type.
+-- What reading the data of a record of this type gives, len octets from p, and the place behind them; or the first
+-- fault. Every type but TSIG may have no data. Otherwise they are read as the data of their type.
 unfoldable pub rdata_at : Table → List ℕ → ℕ → ℕ → ℕ → Result (Option (List Value) × ℕ) DecodeError
 rdata_at table m p len rtype =
     if is_empty_at m p len rtype then Ok (None, p)

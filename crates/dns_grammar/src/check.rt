@@ -105,7 +105,8 @@ impl<T: TestedField> FieldForm<T> {
         requires inside { end ≤ length (octets decoder.old) }
         requires jumps { AreJumps (octets decoder.old) jumps.old }
         ensures exact { Reads (λ u. u) result decoder.old decoder.new
-            (without_value (fields_at (form_field T.field self.now ∷ []) (octets decoder.old) (place decoder.old) end)) }
+            (without_value (fields_at (form_field T.field self.now ∷ [])
+            (octets decoder.old) (place decoder.old) end)) }
         ensures inside { place decoder.new ≤ end }
         ensures jumps { AreJumps (octets decoder.old) jumps.new }
     {
@@ -206,7 +207,8 @@ pub fn check_row<T: TestedField>(
 ) -> Result<(), DecodeError>
     requires jumps { AreJumps (octets decoder.old) jumps.old }
     ensures exact { Reads (λ u. u) result decoder.old decoder.new
-        (without_value (one_type_data_at (form_fields T.field fields.now) (octets decoder.old) (place decoder.old) len)) }
+        (without_value (one_type_data_at (form_fields T.field fields.now)
+        (octets decoder.old) (place decoder.old) len)) }
     ensures jumps { AreJumps (octets decoder.old) jumps.new }
 {
     let start = decoder.index();

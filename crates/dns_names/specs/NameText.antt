@@ -6,7 +6,8 @@ use Rattle.std.specs.Cmp.Lexicographic.{pointwise}
 use Rattle.std.specs.Fmt.{decimal}
 use Rattle.std.specs.Char.{is_ascii_digit, is_ascii_graphic}
 use Rattle.dns_wire.specs.declared.error.NameError.{NameError}
-use Rattle.dns_wire.specs.declared.error.NameError.TheVariants.{EmptyLabel, LabelTooLong, NameTooLong, BadEscape, BadCharacter}
+use Rattle.dns_wire.specs.declared.error.NameError.TheVariants.{EmptyLabel, LabelTooLong, NameTooLong, BadEscape}
+use Rattle.dns_wire.specs.declared.error.NameError.TheVariants.{BadCharacter}
 use Rattle.dns_wire.specs.Reading.{◌>>=◌}
 use Rattle.dns_names.specs.Names.{wire}
 

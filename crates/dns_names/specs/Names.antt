@@ -1,5 +1,6 @@
 -- Domain names, as lists of labels, leftmost first (RFC 1035 3.1).
-use Rattle.std.specs.Prelude.{Bool, ◌≡◌, ℕ, zero, suc, ◌<◌, ◌≤◌, ◌-◌, List, [], ◌∷◌, ◌++◌, length, replicate, map, reverse, take, nat_eq, if◌then◌else◌, codes}
+use Rattle.std.specs.Prelude.{Bool, ◌≡◌, ℕ, zero, suc, ◌<◌, ◌≤◌, ◌-◌, List, [], ◌∷◌, ◌++◌, length, replicate, map}
+use Rattle.std.specs.Prelude.{reverse, take, nat_eq, if◌then◌else◌, codes}
 use Rattle.std.specs.List.{AllByRecursion}
 use Rattle.std.specs.declared.cmp.Ordering.{Ordering}
 use Rattle.std.specs.Ordering.{nat_cmp}
@@ -38,8 +39,8 @@ Same n z = low n ≡ low z
 abbrev pub same : List (List ℕ) → List (List ℕ) → Bool
 same n z = pointwise (pointwise nat_eq) (low n) (low z)
 
--- The canonical order of names (RFC 4034 6.1): their labels from the rightmost on, lowered, each as a string of unsigned octets. Where one
--- string or one list of labels begins another, it comes first.
+-- The canonical order of names (RFC 4034 6.1): their labels from the rightmost on, lowered, each as a string of
+-- unsigned octets. Where one string or one list of labels begins another, it comes first.
 abbrev pub name_cmp : List (List ℕ) → List (List ℕ) → Ordering
 name_cmp n z = slice_cmp (slice_cmp nat_cmp) (reverse (low n)) (reverse (low z))
 

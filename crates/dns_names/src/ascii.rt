@@ -43,7 +43,8 @@ impl LabelBuf {
     ///
     /// `LabelTooLong` where there are 63 octets.
     fn add_octet(&mut self, octet: u8) -> Result<(), NameError>
-        ensures { MatchResult result (λ _. add_octet self.old octet ≡ Ok self.new) (λ e. add_octet self.old octet ≡ Err e) }
+        ensures { MatchResult result (λ _. add_octet self.old octet ≡ Ok self.new) (λ e. add_octet self.old octet
+            ≡ Err e) }
     {
         if self.len == MAX_LABEL {
             return Err(NameError::LabelTooLong);
@@ -134,8 +135,8 @@ impl Name {
     ///
     /// # Errors
     ///
-    /// The first fault from the left: `EmptyLabel` at two dots, at a dot at the front and for no text, `LabelTooLong` at
-    /// the 64th octet of a label, `NameTooLong` at the end of a label that brings the wire form above 255 octets,
+    /// The first fault from the left: `EmptyLabel` at two dots, at a dot at the front and for no text, `LabelTooLong`
+    /// at the 64th octet of a label, `NameTooLong` at the end of a label that brings the wire form above 255 octets,
     /// `BadEscape` at a backslash before anything else, `BadCharacter` at a character that is not visible ASCII.
     pub fn from_ascii(text: &str) -> Result<Name, NameError>
         ensures found { IfOk result (λ n. Spells text.now n × IsName n) }

@@ -1,7 +1,7 @@
 //! Where chains of pointers lead, so that each is gone through once (RFC 1035 4.1.4).
 //!
-//! A table of jumps has a number for each of the first places of a message, as many as it has room for: how far back the
-//! place lies whose chain of pointers says what the chain at this place says. 0 is true of each place.
+//! A table of jumps has a number for each of the first places of a message, as many as it has room for: how far back
+//! the place lies whose chain of pointers says what the chain at this place says. 0 is true of each place.
 ghost use Rattle.std.specs.Prelude.{◌≡◌, ◌^◌, ◌≤◌, ◌<◌};
 ghost use Rattle.dns_names.specs.Jumps.{AreJumps, IsEnd, LeadsTo};
 

@@ -1,5 +1,6 @@
 //! Domain names.
-ghost use Rattle.std.specs.Prelude.{◌≡◌, ℕ, ◌+◌, ◌≤◌, ◌<◌, ◌++◌, ◌↔◌, List, [], ◌∷◌, length, IsTrue, MatchResult, Ok, Err};
+ghost use Rattle.std.specs.Prelude.{◌≡◌, ℕ, ◌+◌, ◌≤◌, ◌<◌, ◌++◌, ◌↔◌, List, [], ◌∷◌, length, IsTrue, MatchResult, Ok};
+ghost use Rattle.std.specs.Prelude.{Err};
 ghost use Rattle.std.specs.Cmp.{on_equiv, on_per, partial_equiv_from_equiv};
 ghost use Rattle.std.proofs.lemmas.Cmp.{lists_equiv, nat_eq_equiv};
 ghost use Rattle.std.specs.Hash as fed;
@@ -21,8 +22,8 @@ const MAX_NAME: usize = 255;
 
 /// A domain name: labels of 1 to 63 octets, at most 255 octets on the wire (RFC 1035 3.1).
 ///
-/// A contract sees the list of its labels, leftmost first. Equality, hash and order put the case of ASCII letters aside.
-/// The clause `is_name` of a getter says what every name keeps to.
+/// A contract sees the list of its labels, leftmost first. Equality, hash and order put the case of ASCII letters
+/// aside. The clause `is_name` of a getter says what every name keeps to.
 #[derive(Clone, Copy)]
 pub struct Name {
     octets: [u8; MAX_NAME],

@@ -5,7 +5,8 @@ use Rattle.dns_grammar.proofs.MessageBack.{written_message}
 use Rattle.dns_grammar.proofs.laws.written_is_read.Goals as goal
 
 pub returns-clause-fields : goal.returns-clause-fields
-returns-clause-fields c fields last values x front back holds written = written_reads fields values x front back last holds written
+returns-clause-fields c fields last values x front back holds written = written_reads fields values x front back last
+    holds written
 
 pub returns-clause-row : goal.returns-clause-row
 returns-clause-row c = written_row

@@ -14,18 +14,24 @@ dot_alone text is = ap (λ b. cond {A = Result (List (List ℕ)) NameError} b (O
 other : (text : List ℕ) → pointwise nat_eq text (46 ∷ []) ≡ false → name_from_text text ≡ completed_name 0 [] [] text
 other text is = ap (λ b. cond {A = Result (List (List ℕ)) NameError} b (Ok []) (completed_name 0 [] [] text)) is
 
-found : (text : List ℕ) (answer : Result (List (List ℕ)) NameError) → answer ≡ name_from_text text → IfOk answer (λ n. Spells text n × IsName n)
+found : (text : List ℕ) (answer : Result (List (List ℕ)) NameError) → answer ≡ name_from_text text
+    → IfOk answer (λ n. Spells text n × IsName n)
 found text (Ok n) h = name_spelled text n (sym h)
 found text (Err e) h = tt
 
 pub returns-then-eq-clause-only : goal.returns-then-eq-clause-only
 returns-then-eq-clause-only c n spells name =
-    ap (λ z. Ok z) c.root.ensures ∙ sym (dot_alone c.args.text.now (ap (pointwise nat_eq c.args.text.now) (sym c.as_slice.ensures) ∙ sym c.eq.ensures ∙ c.if-eq.true)) ∙ name_read c.args.text.now n spells name
+    ap (λ z. Ok z) c.root.ensures ∙ sym (dot_alone c.args.text.now
+    (ap (pointwise nat_eq c.args.text.now) (sym c.as_slice.ensures) ∙ sym c.eq.ensures ∙ c.if-eq.true))
+    ∙ name_read c.args.text.now n spells name
 
 pub returns-clause-found : goal.returns-clause-found
 returns-clause-found c =
-    found c.args.text.now _ (c.spelled_name.ensures ∙ sym (other c.args.text.now (ap (pointwise nat_eq c.args.text.now) (sym c.as_slice.ensures) ∙ sym c.eq.ensures ∙ c.if-eq.false)))
+    found c.args.text.now _ (c.spelled_name.ensures
+    ∙ sym (other c.args.text.now (ap (pointwise nat_eq c.args.text.now) (sym c.as_slice.ensures) ∙ sym c.eq.ensures
+    ∙ c.if-eq.false)))
 
 pub returns-clause-only : goal.returns-clause-only
 returns-clause-only c n spells name =
-    c.spelled_name.ensures ∙ sym (other c.args.text.now (ap (pointwise nat_eq c.args.text.now) (sym c.as_slice.ensures) ∙ sym c.eq.ensures ∙ c.if-eq.false)) ∙ name_read c.args.text.now n spells name
+    c.spelled_name.ensures ∙ sym (other c.args.text.now (ap (pointwise nat_eq c.args.text.now) (sym c.as_slice.ensures)
+    ∙ sym c.eq.ensures ∙ c.if-eq.false)) ∙ name_read c.args.text.now n spells name
