@@ -92,7 +92,8 @@ pub record TsigFits (tsig : TsigFields) : Type 0 where
 -- algorithm, time, fudge and MAC
 unfoldable pub signed_text : TsigFields → List ℕ
 signed_text tsig =
-    name_text_without_dot (algorithm_name tsig.algorithm) ++ codes " " ++ decimal tsig.time ++ codes " " ++ decimal tsig.fudge
+    name_text_without_dot (algorithm_name tsig.algorithm) ++ codes " " ++ decimal tsig.time ++ codes " "
+    ++ decimal tsig.fudge
     ++ codes " " ++ lower_hex tsig.mac
 
 -- original ID, error number and other data

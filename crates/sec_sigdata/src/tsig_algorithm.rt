@@ -7,7 +7,7 @@ ghost use Rattle.sec_sigdata.specs.TsigAlgorithms.{algorithm_name, algorithm_amo
 ghost use Rattle.sec_sigdata.specs.TsigAlgorithms.{hash_of, supported, algorithm_with, mac_of, checked_mac};
 
 use crate::error::DnsSecError;
-use dns_names::{NameWithoutDot, Label, Name};
+use dns_names::{Label, Name, NameWithoutDot};
 use dns_wire::{BinDecodable, BinDecoder, BinEncodable, BinEncoder, DecodeError, EmitError};
 use sec_digest::{Hmac, HmacHash};
 use std::alloc::Global;
