@@ -18,7 +18,8 @@ pub fn answer_is_by_its_message()
     ensures none { NoMessageIsDecode }
 {}
 
-/// What a request is signed as is decided by the message that stands in its octets, and nothing is signed where none stands.
+/// What a request is signed as is decided by the message that stands in its octets, and nothing is signed where none
+/// stands.
 pub fn request_is_by_its_message()
     ensures stands { RequestIsByMessage }
     ensures none { NoMessageIsNoRequest }

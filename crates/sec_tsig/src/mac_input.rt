@@ -2,7 +2,8 @@
 ghost use Rattle.std.specs.Prelude.{◌≡◌, ℕ, ◌≤◌, ◌<◌, ◌^◌, List, ◌++◌, length, Some, None, true};
 ghost use Rattle.sec_digest.specs.declared.hmac.HmacHash.{HmacHash};
 ghost use Rattle.sec_digest.specs.Hmac.{Feeds};
-ghost use Rattle.sec_sigdata.specs.TsigRecords.{borrowed_data, borrowed_fields, TsigFits, tsig_timers, key_variables, error_variables, tsig_variables};
+ghost use Rattle.sec_sigdata.specs.TsigRecords.{borrowed_data, borrowed_fields, TsigFits, tsig_timers, key_variables};
+ghost use Rattle.sec_sigdata.specs.TsigRecords.{error_variables, tsig_variables};
 ghost use Rattle.sec_tsig.specs.Tsig.{prior_mac, message_without_tsig, mac_input, signing_input};
 
 use crate::signature_view::SignatureView;
