@@ -64,3 +64,5 @@ module _ (test : ℕ → Bool) where
 pub also_true : (read : Result Bool DecodeError) → also true read ≡ read
 also_true (Ok b) = refl
 also_true (Err e) = refl
+
+pub ruleset passing = (passes_more, passes_none, also_true)

@@ -8,7 +8,8 @@ ghost use Rattle.sec_tsig.specs.RecordSets.{listed_records, message_sets, same_s
 
 /// A set is among those of a message exactly where a record is of it that forms sets, and no set is there twice.
 pub fn sets_are_those_of_records()
-    ensures each { (set : record_set) (message : Message) → list_any (same_set set) (message_sets message) ≡ list_any (same_set set) (listed_records message) }
+    ensures each { (set : record_set) (message : Message)
+        → list_any (same_set set) (message_sets message) ≡ list_any (same_set set) (listed_records message) }
     ensures once { (message : Message) → IsDistinct same_set (message_sets message) }
 {}
 

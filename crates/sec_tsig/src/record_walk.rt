@@ -20,7 +20,7 @@ use dns_wire::{BinDecoder, DecodeError};
 use std::alloc::Global;
 
 /// Whether each of so many records is of one of these types.
-#[tactic(auto, using(crate::proofs::Each::passes_more, crate::proofs::Each::passes_none, crate::proofs::Each::also_true))]
+#[tactic(auto, using(crate::proofs::Each::passing))]
 fn types_pass(
     mut reader: BinDecoder<'_>,
     count: u32,

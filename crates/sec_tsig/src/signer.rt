@@ -207,8 +207,8 @@ impl FirstSigner {
         requires mac { mac_octets mac.now ≡ request_mac self.now time header.now.id octets.now }
         ensures given { GivesUnless EmitError.OutOfMemory (λ v. v.items) result
             (with_request_tsig self.now time (header_view header.now) octets.now) }
-        ensures refused { (cause : EmitError) → with_request_tsig self.now time (header_view header.now) octets.now ≡ Err cause
-            → result ≡ Err cause }
+        ensures refused { (cause : EmitError)
+            → with_request_tsig self.now time (header_view header.now) octets.now ≡ Err cause → result ≡ Err cause }
     {
         let tsig = self.request_tsig(header.id, time, mac.as_slice());
         with_tsig(alloc, octets, header.additionals, &self.name, &tsig)

@@ -64,8 +64,8 @@ pub(crate) fn with_tsig(
     ensures given { GivesUnless EmitError.OutOfMemory (λ v. v.items) result
         (with_tsig octets.now additionals owner.now (borrowed_data tsig.now)) }
     // Want of memory comes in place of a message alone.
-    ensures refused { (cause : EmitError) → with_tsig octets.now additionals owner.now (borrowed_data tsig.now) ≡ Err cause
-        → result ≡ Err cause }
+    ensures refused { (cause : EmitError)
+        → with_tsig octets.now additionals owner.now (borrowed_data tsig.now) ≡ Err cause → result ≡ Err cause }
 {
     if additionals == u16::MAX {
         return Err(EmitError::CountTooLarge);
