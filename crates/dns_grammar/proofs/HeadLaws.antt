@@ -86,7 +86,7 @@ query_read m p query q s =
 -- ---- records
 
 -- what stands before a record's data
-record HeadAt (m : List ℕ) (p : ℕ) (head : RecordHead) (q : ℕ) : Type 0 where
+pub record HeadAt (m : List ℕ) (p : ℕ) (head : RecordHead) (q : ℕ) : Type 0 where
   pub fixed : ℕ
   pub start : head.start ≡ p
   pub name : NameAt m p (length m) head.name fixed
@@ -96,7 +96,7 @@ record HeadAt (m : List ℕ) (p : ℕ) (head : RecordHead) (q : ℕ) : Type 0 wh
   pub rdlength : NumberAt w16 m (fixed + 8) (length m) head.data_length (fixed + 10)
   pub end : q ≡ fixed + 10
 
-head_stands : (m : List ℕ) (p : ℕ) (head : RecordHead) (q : ℕ) → head_at m p ≡ Ok (head, q) → HeadAt m p head q
+pub head_stands : (m : List ℕ) (p : ℕ) (head : RecordHead) (q : ℕ) → head_at m p ≡ Ok (head, q) → HeadAt m p head q
 unfolding head_at
 head_stands m p head q h =
     let name = bind_ok (name_at m p (length m)) _ (head, q) h in

@@ -13,3 +13,5 @@ mod keydata_text;
 mod sigdata;
 #[cfg(test)]
 mod sigdata_tsig;
+#[cfg(test)]
+mod tsig;

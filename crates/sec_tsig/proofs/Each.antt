@@ -3,34 +3,34 @@ use Rattle.std.proofs.Common.{◌≡◌, ℕ, suc, ◌+◌, ◌-◌, ◌<◌, �
 use Rattle.std.specs.List.{list_all}
 use Rattle.dns_wire.specs.declared.error.DecodeError.{DecodeError}
 use Rattle.dns_wire.specs.Reading.{◌>>=◌, each_at}
-use Rattle.dns_grammar.specs.Messages.{ResourceRecord, all_pass, end_of, type_passes}
-use Rattle.sec_tsig.specs.Views.{type_at}
+use Rattle.dns_names.specs.Skipping.{without_value}
+use Rattle.sec_tsig.specs.RecordWalks.{all_pass}
 
 -- ---- places alone
 
-end_first : {A : Type 0} (x : A) (rest : Result (List A × ℕ) DecodeError) → end_of (rest >>= λ xs. Ok (x ∷ xs.0, xs.1)) ≡ end_of rest
-end_first x (Ok xs) = refl
-end_first x (Err e) = refl
+skipped_first : {A : Type 0} (x : A) (rest : Result (List A × ℕ) DecodeError) → without_value (rest >>= λ xs. Ok (x ∷ xs.0, xs.1)) ≡ without_value rest
+skipped_first x (Ok xs) = refl
+skipped_first x (Err e) = refl
 
-end_split : {A : Type 0} (read : ℕ → Result (A × ℕ) DecodeError) (n : ℕ) (first : Result (A × ℕ) DecodeError)
-    → end_of (first >>= λ x. each_at read n x.1 >>= λ xs. Ok (x.0 ∷ xs.0, xs.1)) ≡ (end_of first >>= λ q. end_of (each_at read n q))
-end_split read n (Ok x) = end_first x.0 (each_at read n x.1)
-end_split read n (Err e) = refl
+skipped_split : {A : Type 0} (read : ℕ → Result (A × ℕ) DecodeError) (n : ℕ) (first : Result (A × ℕ) DecodeError)
+    → without_value (first >>= λ x. each_at read n x.1 >>= λ xs. Ok (x.0 ∷ xs.0, xs.1)) ≡ (without_value first >>= λ x. without_value (each_at read n x.1))
+skipped_split read n (Ok x) = skipped_first x.0 (each_at read n x.1)
+skipped_split read n (Err e) = refl
 
-pub end_more : {A : Type 0} (read : ℕ → Result (A × ℕ) DecodeError) (n i p : ℕ) → i < n
-    → end_of (each_at read (n - i) p) ≡ (end_of (read p) >>= λ q. end_of (each_at read (n - (i + 1)) q))
+pub skipped_more : {A : Type 0} (read : ℕ → Result (A × ℕ) DecodeError) (n i p : ℕ) → i < n
+    → without_value (each_at read (n - i) p) ≡ (without_value (read p) >>= λ x. without_value (each_at read (n - (i + 1)) x.1))
 unfolding each_at
-end_more read n i p lt = let more : n - i ≡ suc (n - (i + 1)) = omega arith in rw more (end_split read (n - (i + 1)) (read p))
+skipped_more read n i p lt = let more : n - i ≡ suc (n - (i + 1)) = omega arith in rw more (skipped_split read (n - (i + 1)) (read p))
 
-pub end_none : {A : Type 0} (read : ℕ → Result (A × ℕ) DecodeError) (n i p : ℕ) → n ≤ i → end_of (each_at read (n - i) p) ≡ Ok p
+pub skipped_none : {A : Type 0} (read : ℕ → Result (A × ℕ) DecodeError) (n i p : ℕ) → n ≤ i → without_value (each_at read (n - i) p) ≡ Ok (tt, p)
 unfolding each_at
-end_none read n i p le = let none : n - i ≡ 0 = omega arith in rw none refl
+skipped_none read n i p le = let none : n - i ≡ 0 = omega arith in rw none refl
 
 -- ---- whether each passes a test
 
 -- what holds before, and what is still to be read
-abbrev pub also : Bool → Result (Bool × ℕ) DecodeError → Result (Bool × ℕ) DecodeError
-also before read = read >>= λ x. Ok (before && x.0, x.1)
+abbrev pub also : Bool → Result Bool DecodeError → Result Bool DecodeError
+also before read = read >>= λ x. Ok (before && x)
 
 and_assoc : (a b c : Bool) → (a && (b && c)) ≡ ((a && b) && c)
 and_assoc true b c = refl
@@ -41,22 +41,28 @@ and_true true = refl
 and_true false = refl
 
 module _ (test : ℕ → Bool) where
-  first_passes : (before : Bool) (rr : ResourceRecord) (rest : Result (List ResourceRecord × ℕ) DecodeError)
-      → also before (all_pass (type_passes test) (rest >>= λ xs. Ok (rr ∷ xs.0, xs.1))) ≡ also (before && test rr.rtype) (all_pass (type_passes test) rest)
-  first_passes before rr (Ok xs) = ap (λ (b : Bool). Ok (b, xs.1)) (and_assoc before (test rr.rtype) (list_all (type_passes test) xs.0))
-  first_passes before rr (Err e) = refl
+  first_passes : (before : Bool) (n : ℕ) (rest : Result (List ℕ × ℕ) DecodeError)
+      → also before (all_pass test (rest >>= λ xs. Ok (n ∷ xs.0, xs.1))) ≡ also (before && test n) (all_pass test rest)
+  first_passes before n (Ok xs) = ap (λ (b : Bool). Ok b) (and_assoc before (test n) (list_all test xs.0))
+  first_passes before n (Err e) = refl
 
-  split : (before : Bool) (read : ℕ → Result (ResourceRecord × ℕ) DecodeError) (n : ℕ) (first : Result (ResourceRecord × ℕ) DecodeError)
-      → also before (all_pass (type_passes test) (first >>= λ x. each_at read n x.1 >>= λ xs. Ok (x.0 ∷ xs.0, xs.1)))
-      ≡ (type_at first >>= λ x. also (before && test x.0) (all_pass (type_passes test) (each_at read n x.1)))
+  split : (before : Bool) (read : ℕ → Result (ℕ × ℕ) DecodeError) (n : ℕ) (first : Result (ℕ × ℕ) DecodeError)
+      → also before (all_pass test (first >>= λ x. each_at read n x.1 >>= λ xs. Ok (x.0 ∷ xs.0, xs.1)))
+      ≡ (first >>= λ x. also (before && test x.0) (all_pass test (each_at read n x.1)))
   split before read n (Ok x) = first_passes before x.0 (each_at read n x.1)
   split before read n (Err e) = refl
 
-  pub passes_more : (before : Bool) (read : ℕ → Result (ResourceRecord × ℕ) DecodeError) (n i p : ℕ) → i < n
-      → also before (all_pass (type_passes test) (each_at read (n - i) p)) ≡ (type_at (read p) >>= λ x. also (before && test x.0) (all_pass (type_passes test) (each_at read (n - (i + 1)) x.1)))
+  pub passes_more : (before : Bool) (read : ℕ → Result (ℕ × ℕ) DecodeError) (n i p : ℕ) → i < n
+      → also before (all_pass test (each_at read (n - i) p)) ≡ (read p >>= λ x. also (before && test x.0) (all_pass test (each_at read (n - (i + 1)) x.1)))
   unfolding each_at
   passes_more before read n i p lt = let more : n - i ≡ suc (n - (i + 1)) = omega arith in rw more (split before read (n - (i + 1)) (read p))
 
-  pub passes_none : (before : Bool) (read : ℕ → Result (ResourceRecord × ℕ) DecodeError) (n i p : ℕ) → n ≤ i → also before (all_pass (type_passes test) (each_at read (n - i) p)) ≡ Ok (before, p)
+  pub passes_none : (before : Bool) (read : ℕ → Result (ℕ × ℕ) DecodeError) (n i p : ℕ) → n ≤ i → also before (all_pass test (each_at read (n - i) p)) ≡ Ok before
   unfolding each_at
-  passes_none before read n i p le = let none : n - i ≡ 0 = omega arith in rw none (ap (λ (b : Bool). Ok (b, p)) (and_true before))
+  passes_none before read n i p le = let none : n - i ≡ 0 = omega arith in rw none (ap (λ (b : Bool). Ok b) (and_true before))
+
+pub also_true : (read : Result Bool DecodeError) → also true read ≡ read
+also_true (Ok b) = refl
+also_true (Err e) = refl
+
+pub ruleset passing = (passes_more, passes_none, also_true)

@@ -11,8 +11,8 @@ use Rattle.std.proofs.lemmas.List.Folds.{list_any-append}
 use Rattle.dns_names.specs.Names.{low, same}
 use Rattle.dns_names.specs.NameLaws.{same_ties}
 use Rattle.sec_tsig.specs.declared.first_set.FirstSet.{FirstSet}
-use Rattle.sec_tsig.specs.declared.first_set.SetKey.{SetKey}
-use Rattle.sec_tsig.specs.RecordSets.{Knows, is_listed, key_cmp, key_of, same_set, with_new, with_set}
+use Rattle.sec_tsig.specs.declared.first_set.RrsetKey.{RrsetKey}
+use Rattle.sec_tsig.specs.RecordSets.{Knows, forms_rrset, key_cmp, key_of, same_set, with_new, with_set}
 
 both_equal : (a b : Ordering) → is_eq (ordering_then a b) ≡ (is_eq a && is_eq b)
 both_equal Less b = refl
@@ -52,17 +52,17 @@ or_false true = refl
 or_false false = refl
 
 -- what is known before and after the key of k is put in
-module _ (k : FirstSet) (key : SetKey) (is_key : key ≡ key_of k) (sets : List FirstSet) (old new : BTreeSet SetKey) (added : Bool) (is_new : added ≡ not (contains key_cmp old key))
-    (puts : (q : SetKey) → contains key_cmp new q ≡ cond (is_eq (key_cmp key q)) true (contains key_cmp old q)) (knows : Knows sets old) where
+module _ (k : FirstSet) (key : RrsetKey) (is_key : key ≡ key_of k) (sets : List FirstSet) (old new : BTreeSet RrsetKey) (added : Bool) (is_new : added ≡ not (contains key_cmp old key))
+    (puts : (q : RrsetKey) → contains key_cmp new q ≡ cond (is_eq (key_cmp key q)) true (contains key_cmp old q)) (knows : Knows sets old) where
   has : (q : FirstSet) → contains key_cmp new (key_of q) ≡ cond (same_set k q) true (list_any (same_set q) sets)
   has q =
       puts (key_of q)
-      ∙ ap (λ (j : SetKey). cond (is_eq (key_cmp j (key_of q))) true (contains key_cmp old (key_of q))) is_key
+      ∙ ap (λ (j : RrsetKey). cond (is_eq (key_cmp j (key_of q))) true (contains key_cmp old (key_of q))) is_key
       ∙ ap (λ (b : Bool). cond b true (contains key_cmp old (key_of q))) (key_ties k q) ∙ ap (λ (b : Bool). cond (same_set k q) true b) (knows.all q)
 
   -- whether the set was there
   pub was_there : (b : Bool) → added ≡ b → list_any (same_set k) sets ≡ not b
-  was_there b h = sym (knows.all k) ∙ not_back (contains key_cmp old (key_of k)) b (ap (λ (j : SetKey). not (contains key_cmp old j)) (sym is_key) ∙ sym is_new ∙ h)
+  was_there b h = sym (knows.all k) ∙ not_back (contains key_cmp old (key_of k)) b (ap (λ (j : RrsetKey). not (contains key_cmp old j)) (sym is_key) ∙ sym is_new ∙ h)
 
   any_push : (q : FirstSet) (b : Bool) → same_set q k ≡ b → list_any (same_set q) (sets ++ k ∷ []) ≡ (list_any (same_set q) sets || b)
   any_push q b e = list_any-append (same_set q) sets (k ∷ []) ∙ ap (λ (b : Bool). list_any (same_set q) sets || b) (or_false (same_set q k) ∙ e)
@@ -77,11 +77,11 @@ module _ (k : FirstSet) (key : SetKey) (is_key : key ≡ key_of k) (sets : List 
 -- ---- the list with one more set
 
 pub listed_known : (k : FirstSet) (sets : List FirstSet) → list_any (same_set k) sets ≡ true → sets ≡ with_set sets k
-listed_known k sets known = at (is_listed k.rtype)
+listed_known k sets known = at (forms_rrset k.rtype)
   where
     at : (b : Bool) → sets ≡ cond b (with_new same_set sets k) sets
     at true = rw known refl
     at false = refl
 
-pub listed_new : (k : FirstSet) (sets : List FirstSet) → is_listed k.rtype ≡ true → list_any (same_set k) sets ≡ false → sets ++ k ∷ [] ≡ with_set sets k
+pub listed_new : (k : FirstSet) (sets : List FirstSet) → forms_rrset k.rtype ≡ true → list_any (same_set k) sets ≡ false → sets ++ k ∷ [] ≡ with_set sets k
 listed_new k sets listed new = rw (listed, new) refl

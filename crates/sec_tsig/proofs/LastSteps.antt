@@ -1,21 +1,99 @@
--- The last additional record, and the outline of it.
-use Rattle.std.proofs.Common.{◌≡◌, ◌≢◌, ℕ, zero, suc, ◌+◌, ◌≤◌, ◌&&◌, not, Bool, true, false, cond, eqb, ltb, List, length, Option, Some, None, Result, Ok, Err, refl, sym, subst, ◌∙◌}
+-- The last additional record, as a transaction signature.
+use Rattle.std.proofs.Common.{◌≡◌, ℕ, ◌+◌, Bool, true, false, cond, eqb, ltb, ◌&&◌, not, List, length, Option, Some, None, option_map, Result, Ok, Err, refl, sym, ap, subst, ◌∙◌}
 use Rattle.std.specs.Option.{ForSome}
-use Rattle.std.proofs.lemmas.Bool.{le-ltb, ne_eqb}
 use Rattle.std.proofs.lemmas.Map.Views.{exact_unsigned_eq}
 use Rattle.dns_wire.specs.declared.error.DecodeError.{DecodeError}
-use Rattle.dns_wire.specs.declared.error.DecodeError.TheVariants.{TsigNotLast}
+use Rattle.dns_wire.specs.declared.error.DecodeError.TheVariants.{InsufficientBytes}
 use Rattle.dns_wire.specs.Reading.{◌>>=◌}
-use Rattle.dns_grammar.specs.Fields.{Table, Value}
-use Rattle.dns_grammar.specs.RecordData.{tsig_type, rdata_at, fields_filling}
+use Rattle.dns_grammar.specs.Fields.{Field, Value}
+use Rattle.dns_grammar.specs.RecordData.{tsig_type, fields_filling, one_type_data_at, rdata_at}
 use Rattle.dns_grammar.specs.Tables.{short_table, tsig_row}
-use Rattle.dns_grammar.specs.Messages.{RecordHead, ResourceRecord, TsigData, end_of, head_at, last_at, last_outline, record_at, tsig_values, with_data}
+use Rattle.dns_grammar.specs.Messages.{RecordHead, ResourceRecord, TsigData, Signature, tsig_values, tsig_from_values, with_data, signature_with, head_at, record_at}
+use Rattle.sec_tsig.specs.Views.{as_signature}
 
 same_value : {A : Type 0} (x y : A) → Some x ≡ Some y → x ≡ y
 same_value x y e = cc
 
 pub for_some : {A : Type 0} (P : A → Type 0) (y : A) → P y → ForSome (Some y) P
 for_some P y h x e = subst P (same_value y x e) h
+
+-- where data of this length end
+abbrev pub data_end_at : List ℕ → ℕ → ℕ → Result ℕ DecodeError
+data_end_at m p len = cond (ltb (length m) (p + len)) (Err InsufficientBytes) (cond (eqb len 0) (Err InsufficientBytes) (Ok (p + len)))
+
+abbrev filled : List Field → List ℕ → ℕ → ℕ → Result (List Value × ℕ) DecodeError
+filled fields m p end = fields_filling fields m p end >>= λ values. Ok (values, end)
+
+-- the data of one type, by where they end
+by_end : (fields : List Field) (m : List ℕ) (p len : ℕ) → one_type_data_at fields m p len ≡ (data_end_at m p len >>= filled fields m p)
+unfolding one_type_data_at
+by_end fields m p len = go (ltb (length m) (p + len)) (eqb len 0)
+  where
+    go : (short none : Bool) → cond short (Err InsufficientBytes) (cond none (Err InsufficientBytes) (filled fields m p (p + len)))
+        ≡ (cond short (Err InsufficientBytes) (cond none (Err InsufficientBytes) (Ok (p + len))) >>= filled fields m p)
+    go true none = refl
+    go false true = refl
+    go false false = refl
+
+abbrev with_values : RecordHead → List Value × ℕ → Result (Option Signature × ℕ) DecodeError
+with_values h values = Ok (option_map (signature_with (with_data h (Some values.0))) (tsig_from_values (Some values.0)), values.1)
+
+abbrev as_tsig : RecordHead → Option (List Value) × ℕ → Result (ResourceRecord × ℕ) DecodeError
+as_tsig h rdata = Ok (record (with_data h rdata.0) { rtype = tsig_type }, rdata.1)
+
+abbrev some_data : Result (List Value × ℕ) DecodeError → Result (Option (List Value) × ℕ) DecodeError
+some_data read = read >>= λ values. Ok (Some values.0, values.1)
+
+-- data of type TSIG are not empty
+never_empty : (h : RecordHead) (r : ℕ) (none : Bool) (read : Result (List Value × ℕ) DecodeError)
+    → as_signature (cond (none && false) (Ok (None, r)) (some_data read) >>= as_tsig h) ≡ (read >>= with_values h)
+never_empty h r true (Ok x) = refl
+never_empty h r true (Err e) = refl
+never_empty h r false (Ok x) = refl
+never_empty h r false (Err e) = refl
+
+-- a record of type TSIG, as the last additional
+tsig_last : (m : List ℕ) (p : ℕ) (h : RecordHead) (r : ℕ) → head_at m p ≡ Ok (h, r) → h.rtype ≡ tsig_type
+    → as_signature (record_at short_table true m p) ≡ ((data_end_at m r h.data_length >>= filled tsig_row m r) >>= with_values h)
+unfolding record_at rdata_at
+tsig_last m p h r head is =
+    rw (head, is) (never_empty h r (eqb h.data_length 0) (one_type_data_at tsig_row m r h.data_length))
+    ∙ ap (λ read. read >>= with_values h) (by_end tsig_row m r h.data_length)
+
+-- too few octets for its data, or none
+pub last_short : (m : List ℕ) (p : ℕ) (h : RecordHead) (r : ℕ) (fault : DecodeError) → head_at m p ≡ Ok (h, r) → h.rtype ≡ tsig_type
+    → data_end_at m r h.data_length ≡ Err fault → as_signature (record_at short_table true m p) ≡ Err fault
+last_short m p h r fault head is end = tsig_last m p h r head is ∙ ap (λ read. (read >>= filled tsig_row m r) >>= with_values h) end
+
+-- data that are none
+pub last_fails : (m : List ℕ) (p : ℕ) (h : RecordHead) (r e : ℕ) (fault : DecodeError) → head_at m p ≡ Ok (h, r) → h.rtype ≡ tsig_type
+    → data_end_at m r h.data_length ≡ Ok e → fields_filling tsig_row m r e ≡ Err fault → as_signature (record_at short_table true m p) ≡ Err fault
+last_fails m p h r e fault head is end fails =
+    tsig_last m p h r head is ∙ ap (λ read. (read >>= filled tsig_row m r) >>= with_values h) end
+    ∙ ap (λ read. (read >>= λ values. with_end values e) >>= with_values h) fails
+  where
+    with_end : List Value → ℕ → Result (List Value × ℕ) DecodeError
+    with_end values e = Ok (values, e)
+
+-- a transaction signature
+pub last_signed : (m : List ℕ) (p : ℕ) (h : RecordHead) (r e : ℕ) (tsig : TsigData) → head_at m p ≡ Ok (h, r) → h.rtype ≡ tsig_type
+    → data_end_at m r h.data_length ≡ Ok e → fields_filling tsig_row m r e ≡ Ok (tsig_values tsig)
+    → as_signature (record_at short_table true m p) ≡ Ok (Some (record { start = h.start; name = h.name; tsig = tsig }), e)
+last_signed m p h r e tsig head is end row =
+    tsig_last m p h r head is ∙ ap (λ read. (read >>= filled tsig_row m r) >>= with_values h) end
+    ∙ ap (λ read. (read >>= λ values. with_end values e) >>= with_values h) row
+  where
+    with_end : List Value → ℕ → Result (List Value × ℕ) DecodeError
+    with_end values e = Ok (values, e)
+
+-- where the data end is not before their place
+pub end_behind : (m : List ℕ) (p len e : ℕ) → data_end_at m p len ≡ Ok e → e ≡ p + len
+end_behind m p len e is = go (ltb (length m) (p + len)) (eqb len 0) is
+  where
+    go : (short none : Bool) → cond short (Err InsufficientBytes) (cond none (Err InsufficientBytes) (let ok : Result ℕ DecodeError = Ok (p + len) in ok)) ≡ Ok e → e ≡ p + len
+    go true none is = absurd cc
+    go false true is = absurd cc
+    go false false is = cc
 
 -- what `!=` says of two numbers where it doesn't hold
 pub same_type : (differ : Bool) (a b : ℕ) → differ ≡ false → differ ≡ not (eqb a b) → a ≡ b
@@ -24,66 +102,3 @@ same_type differ a b false_is is = exact_unsigned_eq a b (back (eqb a b) (sym is
     back : (b : Bool) → not b ≡ false → b ≡ true
     back true e = refl
     back false e = sym e
-
-abbrev Data : Type 0
-Data = Result (Option (List Value) × ℕ) DecodeError
-
--- a record with the data that are read, as the last additional
-abbrev found : RecordHead → Option (List Value) × ℕ → Result (Option ResourceRecord × ℕ) DecodeError
-found h d = Ok (Some (with_data h d.0), d.1)
-
-abbrev one_found : RecordHead → Option (List Value) × ℕ → Result (ResourceRecord × ℕ) DecodeError
-one_found h d = Ok (with_data h d.0, d.1)
-
-abbrev as_last : ResourceRecord × ℕ → Result (Option ResourceRecord × ℕ) DecodeError
-as_last rr = Ok (Some rr.0, rr.1)
-
-abbrev may : Bool → Result (Unit {0}) DecodeError
-may b = cond (b && false) (Err TsigNotLast) (Ok tt)
-
--- any record may be the last
-by_place : (b : Bool) (h : RecordHead) (rdata : Data) → ((may b >>= λ _. rdata >>= one_found h) >>= as_last) ≡ (rdata >>= found h)
-by_place true h (Ok d) = refl
-by_place true h (Err e) = refl
-by_place false h (Ok d) = refl
-by_place false h (Err e) = refl
-
-last_read : (table : Table) (count : ℕ) (m : List ℕ) (p : ℕ) (h : RecordHead) (r : ℕ) → count ≢ 0 → head_at m p ≡ Ok (h, r)
-    → last_at table count m p ≡ (rdata_at table m r h.data_length h.rtype >>= found h)
-unfolding last_at record_at
-last_read table zero m p h r some e = absurd (some refl)
-last_read table (suc n) m p h r some e = rw e (by_place (eqb h.rtype tsig_type) h (rdata_at table m r h.data_length h.rtype))
-
--- data that no record of another type than TSIG may have
-pub fails : (test : ℕ → Bool) (table : Table) (count : ℕ) (m : List ℕ) (p : ℕ) (h : RecordHead) (r : ℕ) (fault : DecodeError) → count ≢ 0 → head_at m p ≡ Ok (h, r)
-    → end_of (rdata_at table m r h.data_length h.rtype) ≡ Err fault → last_outline test (last_at table count m p) ≡ Err fault
-fails test table count m p h r fault some e f = rw (last_read table count m p h r some e) (at (rdata_at table m r h.data_length h.rtype) f)
-  where
-    at : (rdata : Data) → end_of rdata ≡ Err fault → last_outline test (rdata >>= found h) ≡ Err fault
-    at (Ok d) f = absurd cc
-    at (Err d) f = cc
-
--- the end of a record of another type than TSIG
-pub ends : (test : ℕ → Bool) (table : Table) (count : ℕ) (m : List ℕ) (p : ℕ) (h : RecordHead) (r q : ℕ) → count ≢ 0 → head_at m p ≡ Ok (h, r) → h.rtype ≢ tsig_type
-    → end_of (rdata_at table m r h.data_length h.rtype) ≡ Ok q → last_outline test (last_at table count m p) ≡ Ok ((None, test h.rtype), q)
-ends test table count m p h r q some e other f = rw (last_read table count m p h r some e) (at (rdata_at table m r h.data_length h.rtype) f)
-  where
-    at : (rdata : Data) → end_of rdata ≡ Ok q → last_outline test (rdata >>= found h) ≡ Ok ((None, test h.rtype), q)
-    at (Ok d) f = let not_tsig : eqb h.rtype tsig_type ≡ false = ne_eqb h.rtype tsig_type other in let end : d.1 ≡ q = cc in rw (not_tsig, end) refl
-    at (Err d) f = absurd cc
-
--- the data of a transaction signature
-tsig_read : (m : List ℕ) (r len t : ℕ) (tsig : TsigData) → t ≡ tsig_type → r + len ≤ length m → len ≢ 0 → fields_filling tsig_row m r (r + len) ≡ Ok (tsig_values tsig)
-    → rdata_at short_table m r len t ≡ Ok (Some (tsig_values tsig), r + len)
-unfolding rdata_at
-tsig_read m r len t tsig is fits some e =
-    let inside : ltb (length m) (r + len) ≡ false = le-ltb (length m) (r + len) fits in
-    let full : eqb len 0 ≡ false = ne_eqb len 0 some in
-    rw (is, inside, full, e) refl
-
--- a transaction signature as the last record
-pub signed : (test : ℕ → Bool) (count : ℕ) (m : List ℕ) (p : ℕ) (h : RecordHead) (r : ℕ) (tsig : TsigData) → count ≢ 0 → head_at m p ≡ Ok (h, r) → h.rtype ≡ tsig_type
-    → r + h.data_length ≤ length m → h.data_length ≢ 0 → fields_filling tsig_row m r (r + h.data_length) ≡ Ok (tsig_values tsig)
-    → last_outline test (last_at short_table count m p) ≡ Ok ((Some (record { start = h.start; name = h.name; tsig = tsig }), test h.rtype), r + h.data_length)
-signed test count m p h r tsig some e is fits full row =
-    rw (last_read short_table count m p h r some e, tsig_read m r h.data_length h.rtype tsig is fits full row, is) refl

@@ -1,10 +1,11 @@
 pub mod Each
 pub mod NumberEnds
 pub mod LastSteps
+pub mod OutlineSteps
 pub mod SetSteps
 pub mod Firsts
 pub mod KeySteps
-pub mod MessageSets
+pub mod MessageWalks
 pub mod Records
 pub mod Outlines
 pub mod ByMessage

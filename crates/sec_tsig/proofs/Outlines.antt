@@ -1,106 +1,127 @@
 -- What the outline of a message tells of a request and of an answer.
-use Rattle.std.proofs.Common.{◌≡◌, ℕ, Bool, true, false, is_err, IsOk, ◌==◌, ◌&&◌, not, List, length, Option, Some, None, Result, Ok, Err, if◌then◌else◌, refl, sym, ap, ◌∙◌}
+use Rattle.std.proofs.Common.{◌≡◌, ◌≢◌, ℕ, Bool, true, false, cond, is_err, is_ok, ◌==◌, ◌&&◌, not, List, length, Some, None, Result, Ok, Err, if◌then◌else◌}
+use Rattle.std.proofs.Common.{refl, sym, ap, subst, ◌∙◌}
+use Rattle.std.specs.Prelude.{IsOk, IfOk}
+use Rattle.std.proofs.lemmas.Bool.{ne_eqb}
 use Rattle.dns_wire.specs.declared.error.DecodeError.{DecodeError}
-use Rattle.dns_wire.specs.Reading.{◌>>=◌}
+use Rattle.dns_wire.specs.Reading.{Gives}
 use Rattle.dns_grammar.specs.Tables.{short_table}
-use Rattle.dns_grammar.specs.Messages.{Header, Message, Outline, outline_at, outline_of, message_at}
-use Rattle.dns_grammar.proofs.OutlineLaws.{outline_is}
+use Rattle.dns_grammar.specs.Messages.{Message, Outline, outline_of, message_at}
 use Rattle.sec_tsig.specs.declared.first_set.FirstSet.{FirstSet}
 use Rattle.sec_tsig.specs.declared.verifier.FirstError.{FirstError}
 use Rattle.sec_tsig.specs.declared.verifier.FirstError.TheVariants as errors
-use Rattle.sec_tsig.specs.declared.verifier.VerifyError.{VerifyError}
-use Rattle.sec_tsig.specs.Views.{is_one_of}
+use Rattle.sec_tsig.specs.declared.verify_error.VerifyError.{VerifyError}
+use Rattle.sec_tsig.specs.Views.{outlined}
 use Rattle.sec_tsig.specs.RecordSets.{message_sets, sets_given}
-use Rattle.sec_tsig.specs.Verdict.{Chain, Cause, tsig_verdict, verdict_on}
-use Rattle.sec_tsig.specs.Causes.{Judges}
+use Rattle.sec_tsig.specs.Verdict.{Chain, accepted, tsig_verdict, verdict_on}
 use Rattle.sec_tsig.specs.FirstMessages.{has_only, request_types, header_of_request, request_header, answer_types, judged_answer, first_answer_of, first_answer}
 
--- the header of a request, by its outline
-abbrev pub header_by_outline : List ℕ → Result (Outline × ℕ) DecodeError → Option Header
-header_by_outline octets (Err _) = None
-header_by_outline octets (Ok x) = if (x.1 == length octets) && x.0.types_pass then Some x.0.header else None
+-- octets are a message of this outline
+record HasOutline (octets : List ℕ) (o : Outline × ℕ) : Type 0 where
+  pub x : Message × ℕ
+  pub read : message_at short_table octets ≡ Ok x
+  pub same : (let seen : Outline × ℕ = (outline_of x.0, x.1) in seen) ≡ o
 
-header_read : (octets : List ℕ) (read : Result (Message × ℕ) DecodeError)
-    → header_of_request octets read ≡ header_by_outline octets (read >>= λ x. Ok (outline_of (is_one_of request_types) x.0, x.1))
-header_read octets (Ok x) = refl
-header_read octets (Err e) = refl
+has_outline : (octets : List ℕ) (o : Outline × ℕ) → outlined (message_at short_table octets) ≡ Ok o → HasOutline octets o
+has_outline octets o is = go (message_at short_table octets) refl is
+  where
+    go : (read : Result (Message × ℕ) DecodeError) → message_at short_table octets ≡ read → outlined read ≡ Ok o → HasOutline octets o
+    go (Ok x) h is = record { x = x; read = h; same = cc }
+    go (Err e) h is = absurd cc
 
-pub request_header_is : (octets : List ℕ) → request_header octets ≡ header_by_outline octets (outline_at short_table (is_one_of request_types) octets)
-request_header_is octets = header_read octets (message_at short_table octets) ∙ ap (header_by_outline octets) (sym (outline_is short_table (is_one_of request_types) octets))
-
--- the sets where the verdict is some chain
-abbrev pub sets_by_verdict : Result Chain Cause → Result (List FirstSet) DecodeError → Result (List FirstSet) FirstError
-sets_by_verdict (Err _) sets = Err errors.Invalid
-sets_by_verdict (Ok _) (Ok sets) = Ok sets
-sets_by_verdict (Ok _) (Err _) = Err errors.Decode
-
--- the first answer, by its outline and its sets
-abbrev pub answer_by_outline : Chain → List ℕ → Result (List FirstSet) DecodeError → Result (Outline × ℕ) DecodeError → Result (List FirstSet) FirstError
-answer_by_outline chain octets sets (Err _) = Err errors.Decode
-answer_by_outline chain octets sets (Ok x) =
-    if not x.0.types_pass then Err errors.NotBuilt
-    else sets_by_verdict (tsig_verdict chain octets x.0.header x.0.signature) sets
-
-sets_judged : (message : Message) (verdict : Result Chain Cause) → judged_answer message verdict ≡ sets_by_verdict verdict (Ok (message_sets message))
-sets_judged message (Ok _) = refl
-sets_judged message (Err _) = refl
-
-either : {A : Type 0} (b : Bool) (x y z : A) → y ≡ z → (if b then x else y) ≡ (if b then x else z)
-either true x y z e = refl
-either false x y z e = e
-
-answer_read : (chain : Chain) (octets : List ℕ) (read : Result (Message × ℕ) DecodeError) → message_at short_table octets ≡ read
-    → first_answer_of chain octets read ≡ answer_by_outline chain octets (sets_given read) (read >>= λ x. Ok (outline_of (is_one_of answer_types) x.0, x.1))
-answer_read chain octets (Err e) is = refl
-answer_read chain octets (Ok x) is =
-    let verdict : Result Chain Cause = verdict_on chain octets (Ok x) in
-    rw is (either (not (has_only answer_types x.0)) (Err errors.NotBuilt) (judged_answer x.0 verdict) (sets_by_verdict verdict (Ok (message_sets x.0))) (sets_judged x.0 verdict))
-
-pub first_answer_is : (chain : Chain) (octets : List ℕ)
-    → first_answer chain octets ≡ answer_by_outline chain octets (sets_given (message_at short_table octets)) (outline_at short_table (is_one_of answer_types) octets)
-first_answer_is chain octets =
-    answer_read chain octets (message_at short_table octets) refl ∙ ap (answer_by_outline chain octets (sets_given (message_at short_table octets))) (sym (outline_is short_table (is_one_of answer_types) octets))
-
--- the header of a request, where its outline is read
-pub request_header_read : (octets : List ℕ) (o : Outline × ℕ) → outline_at short_table (is_one_of request_types) octets ≡ Ok o
-    → request_header octets ≡ (if (o.1 == length octets) && o.0.types_pass then Some o.0.header else None)
-request_header_read octets o read = request_header_is octets ∙ ap (header_by_outline octets) read
-
-pub request_header_none : (octets : List ℕ) (e : DecodeError) → outline_at short_table (is_one_of request_types) octets ≡ Err e → request_header octets ≡ None
-request_header_none octets e read = request_header_is octets ∙ ap (header_by_outline octets) read
-
--- an answer that is no message, that has a record of another type, that is refused, that is accepted
-pub answer_decode : (chain : Chain) (octets : List ℕ) (e : DecodeError) → outline_at short_table (is_one_of answer_types) octets ≡ Err e
-    → first_answer chain octets ≡ Err errors.Decode
-answer_decode chain octets e read = first_answer_is chain octets ∙ ap (answer_by_outline chain octets (sets_given (message_at short_table octets))) read
-
-answer_outlined : (chain : Chain) (octets : List ℕ) (o : Outline × ℕ) → outline_at short_table (is_one_of answer_types) octets ≡ Ok o
-    → first_answer chain octets ≡ (if not o.0.types_pass then Err errors.NotBuilt else sets_by_verdict (tsig_verdict chain octets o.0.header o.0.signature) (sets_given (message_at short_table octets)))
-answer_outlined chain octets o read = first_answer_is chain octets ∙ ap (answer_by_outline chain octets (sets_given (message_at short_table octets))) read
-
-pub answer_not_built : (chain : Chain) (octets : List ℕ) (o : Outline × ℕ) → outline_at short_table (is_one_of answer_types) octets ≡ Ok o
-    → o.0.types_pass ≡ false → first_answer chain octets ≡ Err errors.NotBuilt
-answer_not_built chain octets o read pass = answer_outlined chain octets o read ∙ rw pass refl
-
-pub answer_invalid : (chain : Chain) (octets : List ℕ) (o : Outline × ℕ) (judged : Result (Unit {0}) VerifyError) → outline_at short_table (is_one_of answer_types) octets ≡ Ok o
-    → o.0.types_pass ≡ true → Judges judged (tsig_verdict chain octets o.0.header o.0.signature) → is_err judged ≡ true → first_answer chain octets ≡ Err errors.Invalid
-answer_invalid chain octets o (Ok _) read pass judges is = absurd cc
-answer_invalid chain octets o (Err e) read pass judges is = answer_outlined chain octets o read ∙ rw (pass, judges) refl
-
-sets_accepted : (verdict : Result Chain Cause) (given : Result (List FirstSet) DecodeError) (sets : List FirstSet) → IsOk verdict → given ≡ Ok sets → sets_by_verdict verdict given ≡ Ok sets
-sets_accepted (Ok chain) given sets accepted is = ap (sets_by_verdict (Ok chain)) is
-sets_accepted (Err _) given sets accepted is = absurd cc
-
-pub answer_sets : (chain : Chain) (octets : List ℕ) (o : Outline × ℕ) (judged : Result (Unit {0}) VerifyError) (sets : List FirstSet) → outline_at short_table (is_one_of answer_types) octets ≡ Ok o
-    → o.0.types_pass ≡ true → Judges judged (tsig_verdict chain octets o.0.header o.0.signature) → is_err judged ≡ false → sets_given (message_at short_table octets) ≡ Ok sets
-    → first_answer chain octets ≡ Ok sets
-answer_sets chain octets o (Err e) sets read pass judges is given = absurd cc
-answer_sets chain octets o (Ok _) sets read pass judges is given = answer_outlined chain octets o read ∙ rw pass (sets_accepted _ _ sets judges given)
+-- what holds of the message that octets are
+at_message : (octets : List ℕ) (o : Outline × ℕ) (P : Message × ℕ → Type 0) (has : HasOutline octets o) → IfOk (message_at short_table octets) P → P has.x
+at_message octets o P has holds = subst (λ (read : Result (Message × ℕ) DecodeError). IfOk read P) has.read holds
 
 -- what has an outline is a message
-message_read_if : (test : ℕ → Bool) (read : Result (Message × ℕ) DecodeError) (o : Outline × ℕ) → (read >>= λ x. Ok (outline_of test x.0, x.1)) ≡ Ok o → IsOk read
-message_read_if test (Ok x) o e = refl
-message_read_if test (Err f) o e = absurd cc
+pub message_read : (octets : List ℕ) (o : Outline × ℕ) → outlined (message_at short_table octets) ≡ Ok o → IsOk (message_at short_table octets)
+message_read octets o is = let has = has_outline octets o is in ap (λ (read : Result (Message × ℕ) DecodeError). is_ok read) has.read
 
-pub message_read : (test : ℕ → Bool) (octets : List ℕ) (o : Outline × ℕ) → outline_at short_table test octets ≡ Ok o → IsOk (message_at short_table octets)
-message_read test octets o read = message_read_if test (message_at short_table octets) o (sym (outline_is short_table test octets) ∙ read)
+-- ---- requests
+
+-- a request, where its outline is read, and the types of its records are judged
+pub request_header_read : (octets : List ℕ) (o : Outline × ℕ) (pass : Bool) → outlined (message_at short_table octets) ≡ Ok o
+    → IfOk (message_at short_table octets) (λ x. pass ≡ has_only request_types x.0)
+    → request_header octets ≡ (if (o.1 == length octets) && pass then Some o.0.header else None)
+request_header_read octets o pass is types =
+    let has = has_outline octets o is in
+    let passes : pass ≡ has_only request_types has.x.0 = at_message octets o (λ x. pass ≡ has_only request_types x.0) has types in
+    ap (header_of_request octets) has.read
+    ∙ ap (λ (b : Bool). cond ((has.x.1 == length octets) && b) (Some has.x.0.header) None) (sym passes)
+    ∙ ap (λ (y : Outline × ℕ). cond ((y.1 == length octets) && pass) (Some y.0.header) None) has.same
+
+-- octets that go on behind their message are no request
+pub request_header_other : (octets : List ℕ) (o : Outline × ℕ) → outlined (message_at short_table octets) ≡ Ok o → o.1 ≢ length octets → request_header octets ≡ None
+request_header_other octets o is other =
+    let has = has_outline octets o is in
+    let behind : has.x.1 == length octets ≡ false = ne_eqb has.x.1 (length octets) (λ end. other (sym (ap (λ (y : Outline × ℕ). y.1) has.same) ∙ end)) in
+    ap (header_of_request octets) has.read ∙ rw behind refl
+
+pub request_header_none : (octets : List ℕ) (e : DecodeError) → outlined (message_at short_table octets) ≡ Err e → request_header octets ≡ None
+request_header_none octets e is = go (message_at short_table octets) is
+  where
+    go : (read : Result (Message × ℕ) DecodeError) → outlined read ≡ Err e → header_of_request octets read ≡ None
+    go (Ok x) is = absurd cc
+    go (Err f) is = refl
+
+-- ---- answers
+
+pub answer_decode : (chain : Chain) (octets : List ℕ) (e : DecodeError) → outlined (message_at short_table octets) ≡ Err e
+    → first_answer chain octets ≡ Err errors.Decode
+answer_decode chain octets e is = go (message_at short_table octets) is
+  where
+    go : (read : Result (Message × ℕ) DecodeError) → outlined read ≡ Err e → first_answer_of chain octets read ≡ Err errors.Decode
+    go (Ok x) is = absurd cc
+    go (Err f) is = refl
+
+-- the answer to octets of this message, by the verdict on its TSIG
+abbrev answer_with : Message → Result Chain VerifyError → Bool → Result (List FirstSet) FirstError
+answer_with message verdict only = if not only then Err errors.NotBuilt else judged_answer message verdict
+
+-- an answer whose outline is read, and whose records' types are judged
+answer_outlined : (chain : Chain) (octets : List ℕ) (o : Outline × ℕ) (pass : Bool) (has : HasOutline octets o)
+    → IfOk (message_at short_table octets) (λ x. pass ≡ has_only answer_types x.0)
+    → first_answer chain octets ≡ answer_with has.x.0 (tsig_verdict chain octets o.0.header o.0.signature) pass
+answer_outlined chain octets o pass has types =
+    let passes : pass ≡ has_only answer_types has.x.0 = at_message octets o (λ x. pass ≡ has_only answer_types x.0) has types in
+    ap (first_answer_of chain octets) has.read
+    ∙ ap (λ read. answer_with has.x.0 (verdict_on chain octets read) (has_only answer_types has.x.0)) has.read
+    ∙ ap (answer_with has.x.0 (verdict_on chain octets (Ok has.x))) (sym passes)
+    ∙ ap (λ (y : Outline × ℕ). answer_with has.x.0 (tsig_verdict chain octets y.0.header y.0.signature) pass) has.same
+
+pub answer_not_built : (chain : Chain) (octets : List ℕ) (o : Outline × ℕ) (pass : Bool) → outlined (message_at short_table octets) ≡ Ok o
+    → IfOk (message_at short_table octets) (λ x. pass ≡ has_only answer_types x.0) → pass ≡ false → first_answer chain octets ≡ Err errors.NotBuilt
+answer_not_built chain octets o pass is types other =
+    answer_outlined chain octets o pass (has_outline octets o is) types ∙ rw other refl
+
+refused : (message : Message) (verdict : Result Chain VerifyError) (judged : Result (Unit {0}) VerifyError) → Gives (λ u. u) judged (accepted verdict) → is_err judged ≡ true
+    → judged_answer message verdict ≡ Err errors.Invalid
+refused message (Ok chain) (Ok _) gives is = absurd cc
+refused message (Ok chain) (Err e) gives is = absurd cc
+refused message (Err e) judged gives is = refl
+
+pub answer_invalid : (chain : Chain) (octets : List ℕ) (o : Outline × ℕ) (pass : Bool) (judged : Result (Unit {0}) VerifyError) → outlined (message_at short_table octets) ≡ Ok o
+    → IfOk (message_at short_table octets) (λ x. pass ≡ has_only answer_types x.0) → pass ≡ true
+    → Gives (λ u. u) judged (accepted (tsig_verdict chain octets o.0.header o.0.signature)) → is_err judged ≡ true → first_answer chain octets ≡ Err errors.Invalid
+answer_invalid chain octets o pass judged is types only gives failed =
+    let has = has_outline octets o is in
+    answer_outlined chain octets o pass has types ∙ rw only (refused has.x.0 (tsig_verdict chain octets o.0.header o.0.signature) judged gives failed)
+
+granted : (message : Message) (verdict : Result Chain VerifyError) (judged : Result (Unit {0}) VerifyError) → Gives (λ u. u) judged (accepted verdict) → is_err judged ≡ false
+    → judged_answer message verdict ≡ Ok (message_sets message)
+granted message (Ok chain) judged gives is = refl
+granted message (Err e) (Ok _) gives is = absurd cc
+granted message (Err e) (Err f) gives is = absurd cc
+
+sets_same : (x : Message × ℕ) (sets : List FirstSet) → sets_given (Ok x) ≡ Ok sets → message_sets x.0 ≡ sets
+sets_same x sets is = cc
+
+pub answer_sets : (chain : Chain) (octets : List ℕ) (o : Outline × ℕ) (pass : Bool) (judged : Result (Unit {0}) VerifyError) (sets : List FirstSet)
+    → outlined (message_at short_table octets) ≡ Ok o → IfOk (message_at short_table octets) (λ x. pass ≡ has_only answer_types x.0) → pass ≡ true
+    → Gives (λ u. u) judged (accepted (tsig_verdict chain octets o.0.header o.0.signature)) → is_err judged ≡ false → sets_given (message_at short_table octets) ≡ Ok sets
+    → first_answer chain octets ≡ Ok sets
+answer_sets chain octets o pass judged sets is types only gives fine given =
+    let has = has_outline octets o is in
+    answer_outlined chain octets o pass has types
+    ∙ rw only (granted has.x.0 (tsig_verdict chain octets o.0.header o.0.signature) judged gives fine)
+    ∙ ap (λ (l : List FirstSet). let ok : Result (List FirstSet) FirstError = Ok l in ok) (sets_same has.x sets (sym (ap sets_given has.read) ∙ given))

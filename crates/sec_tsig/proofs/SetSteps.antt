@@ -4,7 +4,7 @@ use Rattle.dns_wire.specs.declared.error.DecodeError.{DecodeError}
 use Rattle.dns_wire.specs.Reading.{◌>>=◌, each_at}
 use Rattle.sec_tsig.specs.declared.first_set.FirstSet.{FirstSet}
 use Rattle.sec_tsig.specs.RecordSets.{with_set}
-use Rattle.sec_tsig.specs.SetReading.{added_sets}
+use Rattle.sec_tsig.specs.RecordWalks.{added_sets}
 
 first_added : (before : List FirstSet) (set : FirstSet) (rest : Result (List FirstSet × ℕ) DecodeError)
     → added_sets before (rest >>= λ xs. Ok (set ∷ xs.0, xs.1)) ≡ added_sets (with_set before set) rest

@@ -1,60 +1,68 @@
--- A signed request, and the first answer to it. Of record data these messages show addresses and transaction signatures alone.
-use Rattle.std.specs.Prelude.{ℕ, List, [], ◌∷◌, length, Bool, true, ◌&&◌, not, Option, Some, None, Result, Ok, Err, nat_lt, ◌==◌, option_map, option_and_then, if◌then◌else◌}
+-- A signed request, and the first answer to it. Of record data these messages show addresses and transaction signatures
+-- alone.
+use Rattle.std.specs.Prelude.{ℕ, List, [], ◌∷◌, length, Bool, true, ◌&&◌, not, Option, Some, None, Result, Ok, Err}
+use Rattle.std.specs.Prelude.{◌==◌, option_map, option_and_then, if◌then◌else◌}
+use Rattle.std.specs.List.{list_all}
 use Rattle.std.specs.Result.{result_ok}
 use Rattle.dns_wire.specs.declared.error.DecodeError.{DecodeError}
-use Rattle.dns_grammar.specs.RecordData.{tsig_type}
+use Rattle.dns_wire.specs.declared.error.EmitError.{EmitError}
+use Rattle.dns_wire.specs.declared.error.EmitError.TheVariants as causes
+use Rattle.dns_types.specs.TypeNumbers as types
+use Rattle.dns_types.specs.TypeSets.{is_one_of}
 use Rattle.dns_grammar.specs.Tables.{short_table}
-use Rattle.dns_grammar.specs.Messages.{Header, Message, TsigData, message_at, all_records, type_passes}
+use Rattle.dns_grammar.specs.Messages.{Header, Message, TsigData, message_at, records}
 use Rattle.sec_digest.specs.Hmac.{hmac}
 use Rattle.sec_tsig.specs.declared.first_set.FirstSet.{FirstSet}
+use Rattle.sec_tsig.specs.declared.signer.FirstSignError.{FirstSignError}
+use Rattle.sec_tsig.specs.declared.signer.FirstSignError.TheVariants as sign_errors
 use Rattle.sec_tsig.specs.declared.verifier.FirstError.{FirstError}
 use Rattle.sec_tsig.specs.declared.verifier.FirstError.TheVariants as errors
-use Rattle.sec_tsig.specs.Views.{is_one_of}
-use Rattle.sec_tsig.specs.RecordSets.{opt_type, message_sets}
-use Rattle.sec_tsig.specs.Tsig.{signing_input, tsig_record, join}
-use Rattle.sec_tsig.specs.Verdict.{algorithm_name, Signer, Chain, Cause, verdict}
+use Rattle.sec_tsig.specs.declared.verify_error.VerifyError.{VerifyError}
+use Rattle.sec_tsig.specs.RecordSets.{message_sets}
+use Rattle.sec_tsig.specs.Tsig.{signing_input, with_tsig}
+use Rattle.sec_tsig.specs.Verdict.{algorithm_name, Signer, Chain, verdict}
 
 -- whether each record is of one of these types
 abbrev pub has_only : List ℕ → Message → Bool
-has_only types message = all_records (type_passes (is_one_of types)) message
-
--- the type of an address, A (RFC 1035 3.4.1)
-abbrev pub address_type : ℕ
-address_type = 1
+has_only allowed message = list_all (λ rr. is_one_of allowed rr.rtype) (records message)
 
 -- ---- the signed request
 
 -- the types of records of a request: A and OPT
 abbrev pub request_types : List ℕ
-request_types = address_type ∷ opt_type ∷ []
+request_types = types.A ∷ types.OPT ∷ []
 
 -- the data of the TSIG of a request with this ID (RFC 8945 5.1)
 abbrev pub request_tsig : Signer → ℕ → ℕ → List ℕ → TsigData
 request_tsig signer time id mac =
-    record { algorithm = algorithm_name signer.algorithm; time = time; fudge = signer.fudge; mac = mac; oid = id; error = 0; other = [] }
+    record {
+      algorithm = algorithm_name signer.algorithm;
+      time = time;
+      fudge = signer.fudge;
+      mac = mac;
+      oid = id;
+      error = 0;
+      other = [];
+    }
 
 -- the MAC of a request with this ID, which covers no MAC
 abbrev pub request_mac : Signer → ℕ → ℕ → List ℕ → List ℕ
 request_mac signer time id octets =
     hmac signer.algorithm signer.key (signing_input None true octets signer.name (request_tsig signer time id []))
 
--- octets that are not too many for a message
-abbrev pub sized : List ℕ → Option (List ℕ)
-sized octets = if nat_lt 65535 (length octets) then None else Some octets
-
--- a request of this header with its TSIG record behind it
-abbrev pub with_request_tsig : Signer → ℕ → Header → List ℕ → Option (List ℕ)
+-- a request of this header with its TSIG record behind it, or the first cause why there is none
+abbrev pub with_request_tsig : Signer → ℕ → Header → List ℕ → Result (List ℕ) EmitError
 with_request_tsig signer time header octets =
-    option_and_then sized
-    (option_and_then (join octets header.additionals)
-    (result_ok (tsig_record signer.name (request_tsig signer time header.id (request_mac signer time header.id octets)))))
+    with_tsig octets header.additionals signer.name
+    (request_tsig signer time header.id (request_mac signer time header.id octets))
 
 -- the chain before the first answer
 abbrev pub first_chain : Signer → ℕ → ℕ → List ℕ → Chain
 first_chain signer time id octets =
     record { signer = signer; request_time = time; mac = request_mac signer time id octets; time = 0; first = true }
 
--- whether octets that read as this message, which ends there, are a request: all of them belong to it, and its records are A and OPT
+-- whether octets that read as this message, which ends there, are a request: all of them belong to it, and its records
+-- are A and OPT
 abbrev pub is_request : List ℕ → Message × ℕ → Bool
 is_request octets x = (x.1 == length octets) && has_only request_types x.0
 
@@ -70,22 +78,28 @@ request_header octets = header_of_request octets (message_at short_table octets)
 -- a request of this header signed, and the chain before the first answer to it
 abbrev pub signed_with : Signer → ℕ → List ℕ → Header → Option (List ℕ × Chain)
 signed_with signer time octets header =
-    option_map (λ signed. (signed, first_chain signer time header.id octets)) (with_request_tsig signer time header octets)
+    option_map (λ signed. (signed, first_chain signer time header.id octets))
+    (result_ok (with_request_tsig signer time header octets))
 
--- The signed request of these octets, and the chain before the first answer to it. There is none where the octets are no message, where
--- they go on behind it, where it has a record of another type than A and OPT or 65,535 additional records, and where the signed request
--- has more than 65,535 octets.
+-- The signed request of these octets, and the chain before the first answer to it. There is none where the octets are
+-- no message, where they go on behind it, where it has a record of another type than A and OPT or 65,535 additional
+-- records, and where the signed request has more than 65,535 octets.
 abbrev pub signed_request : Signer → ℕ → List ℕ → Option (List ℕ × Chain)
 signed_request signer time octets = option_and_then (signed_with signer time octets) (request_header octets)
+
+-- why a request is not signed, by why its TSIG record is not put behind it
+abbrev pub sign_error : EmitError → FirstSignError
+sign_error causes.OutOfMemory = sign_errors.OutOfMemory
+sign_error _ = sign_errors.BadRequest
 
 -- ---- the first answer
 
 -- the types of records of an answer: A, OPT and TSIG
 abbrev pub answer_types : List ℕ
-answer_types = address_type ∷ opt_type ∷ tsig_type ∷ []
+answer_types = types.A ∷ types.OPT ∷ types.TSIG ∷ []
 
 -- the answer to octets that read as this message, by the verdict on them
-abbrev pub judged_answer : Message → Result Chain Cause → Result (List FirstSet) FirstError
+abbrev pub judged_answer : Message → Result Chain VerifyError → Result (List FirstSet) FirstError
 judged_answer message (Ok _) = Ok (message_sets message)
 judged_answer message (Err _) = Err errors.Invalid
 
@@ -96,7 +110,8 @@ first_answer_of chain octets (Ok x) =
     if not (has_only answer_types x.0) then Err errors.NotBuilt
     else judged_answer x.0 (verdict short_table chain octets)
 
--- The record sets of the first answer of a chain. Octets are refused with `Decode` where they are no message, with `NotBuilt` where it has
--- a record of another type than A, OPT and TSIG, and with `Invalid` where the verdict on them is any cause.
+-- The record sets of the first answer of a chain. Octets are refused with `Decode` where they are no message, with
+-- `NotBuilt` where it has a record of another type than A, OPT and TSIG, and with `Invalid` where the verdict on them
+-- is any cause.
 abbrev pub first_answer : Chain → List ℕ → Result (List FirstSet) FirstError
 first_answer chain octets = first_answer_of chain octets (message_at short_table octets)

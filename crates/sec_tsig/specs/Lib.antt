@@ -1,8 +1,7 @@
 pub mod Views
 pub mod RecordSets
-pub mod SetReading
+pub mod RecordWalks
 pub mod Tsig
 pub mod Verdict
-pub mod Causes
 pub mod FirstMessages
 pub mod Laws

@@ -5,30 +5,26 @@ use Rattle.std.specs.Ordering.{nat_cmp, ordering_then}
 use Rattle.std.specs.List.{filter, list_any}
 use Rattle.std.specs.BTreeSet.{BTreeSet, contains}
 use Rattle.dns_wire.specs.declared.error.DecodeError.{DecodeError}
-use Rattle.dns_names.specs.Names.{name_cmp, same}
 use Rattle.dns_wire.specs.Reading.{◌>>=◌}
-use Rattle.dns_grammar.specs.RecordData.{tsig_type}
-use Rattle.dns_grammar.specs.Messages.{Message, ResourceRecord, additionals}
+use Rattle.dns_names.specs.Names.{name_cmp, same}
+use Rattle.dns_types.specs.TypeNumbers as types
+use Rattle.dns_grammar.specs.Messages.{Message, ResourceRecord}
 use Rattle.sec_tsig.specs.declared.first_set.FirstSet.{FirstSet}
-use Rattle.sec_tsig.specs.declared.first_set.SetKey.{SetKey}
+use Rattle.sec_tsig.specs.declared.first_set.RrsetKey.{RrsetKey}
 
--- the types of signatures (RFC 2931, RFC 4034 3) and of OPT (RFC 6891 6.1)
-abbrev pub sig_type : ℕ
-sig_type = 24
-
-abbrev pub opt_type : ℕ
-opt_type = 41
-
-abbrev pub rrsig_type : ℕ
-rrsig_type = 46
-
--- whether records of a type form sets here: all but signatures and OPT
-abbrev pub is_listed : ℕ → Bool
-is_listed rtype = not (nat_eq rtype sig_type) && not (nat_eq rtype opt_type) && not (nat_eq rtype rrsig_type) && not (nat_eq rtype tsig_type)
+-- whether records of a type form sets here: all but signatures (RFC 2931, RFC 4034 3, RFC 8945) and OPT (RFC 6891 6.1)
+abbrev pub forms_rrset : ℕ → Bool
+forms_rrset rtype =
+    not (nat_eq rtype types.SIG)
+    && not (nat_eq rtype types.OPT)
+    && not (nat_eq rtype types.RRSIG)
+    && not (nat_eq rtype types.TSIG)
 
 -- the same section and name, and equal class and type (RFC 2181 5)
 abbrev pub same_set : FirstSet → FirstSet → Bool
-same_set x y = nat_eq x.section y.section && (same x.owner y.owner && (nat_eq x.dns_class y.dns_class && nat_eq x.rtype y.rtype))
+same_set x y =
+    nat_eq x.section y.section
+    && (same x.owner y.owner && (nat_eq x.dns_class y.dns_class && nat_eq x.rtype y.rtype))
 
 -- the set that a record of a section is of
 abbrev pub set_of : ℕ → ResourceRecord → FirstSet
@@ -36,18 +32,20 @@ set_of section rr = record { section = section; owner = rr.name; dns_class = rr.
 
 -- the sets of a section's records that form sets, one for each record
 abbrev pub listed : ℕ → List ResourceRecord → List FirstSet
-listed section records = map (set_of section) (filter (λ rr. is_listed rr.rtype) records)
+listed section records = map (set_of section) (filter (λ rr. forms_rrset rr.rtype) records)
 
 -- the first of each kind, in order: each element takes those of its kind out of what follows
 abbrev pub firsts : {X : Type 0} → (X → X → Bool) → List X → List X
 firsts alike [] = []
 firsts alike (x ∷ xs) = x ∷ filter (λ y. not (alike x y)) (firsts alike xs)
 
--- the sets of all records of a message that form sets, one for each record: answers, authorities and additionals in turn
+-- the sets of all records of a message that form sets, one for each record: answers, authorities and additionals in
+-- turn
 abbrev pub listed_records : Message → List FirstSet
-listed_records message = listed 0 message.answers ++ listed 1 message.authorities ++ listed 2 (additionals message)
+listed_records message = listed 0 message.answers ++ listed 1 message.authorities ++ listed 2 message.additionals
 
--- The record sets of a message: answers, authorities and additionals in turn, in order of first record, the owner spelled as there.
+-- The record sets of a message: answers, authorities and additionals in turn, in order of first record, the owner
+-- spelled as there.
 abbrev pub message_sets : Message → List FirstSet
 message_sets message = firsts same_set (listed_records message)
 
@@ -57,14 +55,17 @@ sets_given read = read >>= λ x. Ok (message_sets x.0)
 
 -- ---- what the list of the sets so far keeps beside it
 
-abbrev pub key_of : FirstSet → SetKey
+abbrev pub key_of : FirstSet → RrsetKey
 key_of x = record { section = x.section; owner = x.owner; dns_class = x.dns_class; rtype = x.rtype }
 
-abbrev pub key_cmp : SetKey → SetKey → Ordering
-key_cmp x y = ordering_then (nat_cmp x.section y.section) (ordering_then (name_cmp x.owner y.owner) (ordering_then (nat_cmp x.dns_class y.dns_class) (nat_cmp x.rtype y.rtype)))
+abbrev pub key_cmp : RrsetKey → RrsetKey → Ordering
+key_cmp x y =
+    ordering_then (nat_cmp x.section y.section)
+    (ordering_then (name_cmp x.owner y.owner)
+    (ordering_then (nat_cmp x.dns_class y.dns_class) (nat_cmp x.rtype y.rtype)))
 
 -- the keys are those of the sets
-pub record Knows (sets : List FirstSet) (seen : BTreeSet SetKey) : Type 0 where
+pub record Knows (sets : List FirstSet) (seen : BTreeSet RrsetKey) : Type 0 where
   pub all : (q : FirstSet) → contains key_cmp seen (key_of q) ≡ list_any (same_set q) sets
 
 -- a list that takes x where none of its kind is there
@@ -73,4 +74,4 @@ with_new alike xs x = cond (list_any (alike x) xs) xs (xs ++ x ∷ [])
 
 -- the same where its records form sets
 abbrev pub with_set : List FirstSet → FirstSet → List FirstSet
-with_set sets set = cond (is_listed set.rtype) (with_new same_set sets set) sets
+with_set sets set = cond (forms_rrset set.rtype) (with_new same_set sets set) sets

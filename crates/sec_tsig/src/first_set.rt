@@ -18,7 +18,7 @@ pub struct FirstSet {
 
 /// What two sets are told apart by, in an order.
 #[derive(Clone, Copy, Debug, PartialEq, Eq, PartialOrd, Ord)]
-pub(crate) struct SetKey {
+pub(crate) struct RrsetKey {
     pub section: u8,
     pub owner: Name,
     pub dns_class: u16,
@@ -27,12 +27,12 @@ pub(crate) struct SetKey {
 
 impl FirstSet {
     ghost use Rattle.std.specs.Prelude.{◌≡◌};
-    ghost use Rattle.sec_tsig.specs.RecordSets.{is_listed, key_of};
+    ghost use Rattle.sec_tsig.specs.RecordSets.{forms_rrset, key_of};
 
-    pub(crate) fn key(&self) -> SetKey
+    pub(crate) fn key(&self) -> RrsetKey
         ensures { result ≡ key_of self.now }
     {
-        SetKey {
+        RrsetKey {
             section: self.section,
             owner: self.owner,
             dns_class: u16::from(self.dns_class),
@@ -41,8 +41,8 @@ impl FirstSet {
     }
 
     /// Whether records of this type form sets: all but signatures and OPT.
-    pub(crate) fn is_listed(&self) -> bool
-        ensures { result ≡ is_listed self.now.rtype }
+    pub(crate) fn forms_rrset(&self) -> bool
+        ensures { result ≡ forms_rrset self.now.rtype }
     {
         self.rtype != RecordType::SIG
             && self.rtype != RecordType::OPT

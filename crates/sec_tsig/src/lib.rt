@@ -2,19 +2,19 @@
 #![tactic(auto)]
 
 mod first_set;
+mod header;
 pub mod laws;
 mod mac_input;
 mod outline;
-mod parts;
 mod rdata;
-mod record_sets;
+mod record_head;
+mod record_walk;
 mod set_list;
 mod signature_view;
 mod signer;
-#[cfg(test)]
-mod tests;
 mod tsig_record;
 mod verifier;
+mod verify_error;
 
 pub use first_set::FirstSet;
 pub use signer::{FirstSignError, FirstSigner};

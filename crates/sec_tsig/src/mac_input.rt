@@ -2,7 +2,8 @@
 ghost use Rattle.std.specs.Prelude.{◌≡◌, ℕ, ◌≤◌, ◌<◌, ◌^◌, List, ◌++◌, length, Some, None, true};
 ghost use Rattle.sec_digest.specs.declared.hmac.HmacHash.{HmacHash};
 ghost use Rattle.sec_digest.specs.Hmac.{Feeds};
-ghost use Rattle.sec_sigdata.specs.TsigRecords.{borrowed_data, borrowed_fields, TsigFits, tsig_timers, key_variables, error_variables, tsig_variables};
+ghost use Rattle.sec_sigdata.specs.TsigRecords.{borrowed_data, borrowed_fields, TsigFits, tsig_timers, key_variables};
+ghost use Rattle.sec_sigdata.specs.TsigRecords.{error_variables, tsig_variables};
 ghost use Rattle.sec_tsig.specs.Tsig.{prior_mac, message_without_tsig, mac_input, signing_input};
 
 use crate::signature_view::SignatureView;
@@ -17,7 +18,8 @@ const CLASS_AND_TTL: [u8; 6] = [0, 255, 0, 0, 0, 0];
 #[tactic(auto, unfolding(crate::specs::Tsig::prior_mac))]
 fn feed_prior_mac(hasher: &mut Hmac, mac: &[u8])
     requires { length mac.now < 2 ^ 16 }
-    ensures { (hash : HmacHash) (key m : List ℕ) → Feeds hasher.old hash key m → Feeds hasher.new hash key (m ++ prior_mac (Some mac.now)) }
+    ensures { (hash : HmacHash) (key m : List ℕ) → Feeds hasher.old hash key m
+        → Feeds hasher.new hash key (m ++ prior_mac (Some mac.now)) }
 {
     hasher.update(&(mac.len() as u16).to_be_bytes());
     hasher.update(mac);
@@ -28,7 +30,8 @@ fn feed_message(hasher: &mut Hmac, oid: u16, additionals: u16, octets: &[u8], st
     requires counted { 1 ≤ additionals }
     requires ahead { 12 ≤ start }
     requires inside { start ≤ length octets.now }
-    ensures { (hash : HmacHash) (key m : List ℕ) → Feeds hasher.old hash key m → Feeds hasher.new hash key (m ++ message_without_tsig oid additionals octets.now start) }
+    ensures { (hash : HmacHash) (key m : List ℕ) → Feeds hasher.old hash key m
+        → Feeds hasher.new hash key (m ++ message_without_tsig oid additionals octets.now start) }
 {
     hasher.update(&oid.to_be_bytes());
     hasher.update(&octets[2..10]);
@@ -39,7 +42,8 @@ fn feed_message(hasher: &mut Hmac, oid: u16, additionals: u16, octets: &[u8], st
 #[tactic(auto, unfolding(sec_sigdata::specs::TsigRecords::tsig_timers))]
 fn feed_timers(hasher: &mut Hmac, tsig: &BorrowedTsig<'_>)
     requires { TsigFits (borrowed_fields tsig.now) }
-    ensures { (hash : HmacHash) (key m : List ℕ) → Feeds hasher.old hash key m → Feeds hasher.new hash key (m ++ tsig_timers (borrowed_data tsig.now)) }
+    ensures { (hash : HmacHash) (key m : List ℕ) → Feeds hasher.old hash key m
+        → Feeds hasher.new hash key (m ++ tsig_timers (borrowed_data tsig.now)) }
 {
     hasher.update(&time_octets(tsig.time));
     hasher.update(&tsig.fudge.to_be_bytes());
@@ -47,7 +51,8 @@ fn feed_timers(hasher: &mut Hmac, tsig: &BorrowedTsig<'_>)
 
 #[tactic(auto, unfolding(sec_sigdata::specs::TsigRecords::key_variables))]
 fn feed_key_variables(hasher: &mut Hmac, owner: &Name, tsig: &BorrowedTsig<'_>)
-    ensures { (hash : HmacHash) (key m : List ℕ) → Feeds hasher.old hash key m → Feeds hasher.new hash key (m ++ key_variables owner.now (borrowed_data tsig.now)) }
+    ensures { (hash : HmacHash) (key m : List ℕ) → Feeds hasher.old hash key m
+        → Feeds hasher.new hash key (m ++ key_variables owner.now (borrowed_data tsig.now)) }
 {
     hasher.update(owner.to_lowercase().as_wire());
     hasher.update(&CLASS_AND_TTL);
@@ -57,7 +62,8 @@ fn feed_key_variables(hasher: &mut Hmac, owner: &Name, tsig: &BorrowedTsig<'_>)
 #[tactic(auto, unfolding(sec_sigdata::specs::TsigRecords::error_variables))]
 fn feed_error_variables(hasher: &mut Hmac, tsig: &BorrowedTsig<'_>)
     requires { TsigFits (borrowed_fields tsig.now) }
-    ensures { (hash : HmacHash) (key m : List ℕ) → Feeds hasher.old hash key m → Feeds hasher.new hash key (m ++ error_variables (borrowed_data tsig.now)) }
+    ensures { (hash : HmacHash) (key m : List ℕ) → Feeds hasher.old hash key m
+        → Feeds hasher.new hash key (m ++ error_variables (borrowed_data tsig.now)) }
 {
     hasher.update(&tsig.error_number().to_be_bytes());
     hasher.update(&(tsig.other.len() as u16).to_be_bytes());
@@ -67,7 +73,8 @@ fn feed_error_variables(hasher: &mut Hmac, tsig: &BorrowedTsig<'_>)
 #[tactic(auto, unfolding(sec_sigdata::specs::TsigRecords::tsig_variables))]
 fn feed_variables(hasher: &mut Hmac, owner: &Name, tsig: &BorrowedTsig<'_>)
     requires { TsigFits (borrowed_fields tsig.now) }
-    ensures { (hash : HmacHash) (key m : List ℕ) → Feeds hasher.old hash key m → Feeds hasher.new hash key (m ++ tsig_variables owner.now (borrowed_data tsig.now)) }
+    ensures { (hash : HmacHash) (key m : List ℕ) → Feeds hasher.old hash key m
+        → Feeds hasher.new hash key (m ++ tsig_variables owner.now (borrowed_data tsig.now)) }
 {
     feed_key_variables(hasher, owner, tsig);
     feed_timers(hasher, tsig);
@@ -90,7 +97,8 @@ pub(crate) fn feed_mac_input(
     requires ahead { 12 ≤ signature.now.start }
     requires inside { signature.now.start ≤ length octets.now }
     ensures { (hash : HmacHash) (key m : List ℕ) → Feeds hasher.old hash key m
-        → Feeds hasher.new hash key (m ++ mac_input (Some previous.now) first additionals octets.now signature.now.start signature.now.name (borrowed_data signature.now.tsig)) }
+        → Feeds hasher.new hash key (m ++ mac_input (Some previous.now) first additionals octets.now
+        signature.now.start signature.now.name (borrowed_data signature.now.tsig)) }
 {
     feed_prior_mac(hasher, previous);
     feed_message(

@@ -1,6 +1,6 @@
 //! A list of record sets, each once.
 
-use crate::first_set::{FirstSet, SetKey};
+use crate::first_set::{FirstSet, RrsetKey};
 use dns_wire::OutOfMemory;
 use std::alloc::Global;
 use std::collections::BTreeSet;
@@ -10,7 +10,7 @@ use std::marker::Model;
 #[derive(Drop)]
 pub(crate) struct SetList {
     sets: Vec<FirstSet>,
-    seen: BTreeSet<SetKey>,
+    seen: BTreeSet<RrsetKey>,
 }
 
 impl Model for SetList {
@@ -39,10 +39,10 @@ impl SetList {
     }
 
     /// Puts a set at the end, unless its records form no sets or it is there.
-    pub(crate) fn with(mut self, set: FirstSet) -> Result<SetList, OutOfMemory>
+    pub(crate) fn insert(mut self, set: FirstSet) -> Result<SetList, OutOfMemory>
         ensures { IfOk result (λ sets. sets ≡ with_set self set) }
     {
-        if !set.is_listed() {
+        if !set.forms_rrset() {
             return Ok(self);
         }
         if !self.seen.insert(set.key())? {

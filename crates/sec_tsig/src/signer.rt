@@ -1,7 +1,8 @@
 //! Signing requests.
-ghost use Rattle.std.specs.Prelude.{◌≡◌, ◌<◌, ◌≤◌, ◌^◌, [], ◌++◌, length, Some, None, Ok, IfOk, OnSome};
-ghost use Rattle.std.specs.Option.{option_map, option_and_then};
-ghost use Rattle.std.specs.Result.{result_ok};
+ghost use Rattle.std.specs.Prelude.{◌≡◌, ◌<◌, ◌≤◌, ◌^◌, [], length, Some, None, Err, IfOk, OnSome};
+ghost use Rattle.std.specs.Option.{option_map};
+ghost use Rattle.dns_wire.specs.declared.error.EmitError.{EmitError};
+ghost use Rattle.dns_wire.specs.Reading.{GivesUnless};
 ghost use Rattle.sec_digest.specs.Hmac.{Feeds, mac_len};
 ghost use Rattle.sec_digest.specs.Mac.{mac_octets};
 ghost use Rattle.std.specs.Str.{bytes_eq};
@@ -9,13 +10,14 @@ ghost use Rattle.dns_names.specs.Names.{wire};
 ghost use Rattle.sec_sigdata.specs.TsigAlgorithms.{algorithm_name, tsig_algorithm_named, algorithm_with};
 ghost use Rattle.sec_sigdata.specs.TsigRecords.{borrowed_data, borrowed_fields, TsigFits, TsigIsByNumber};
 ghost use Rattle.sec_tsig.specs.Views.{header_view, signature_view};
-ghost use Rattle.sec_tsig.specs.Tsig.{join, tsig_record};
 ghost use Rattle.sec_tsig.specs.Verdict.{has_signers_key};
-ghost use Rattle.sec_tsig.specs.FirstMessages.{request_header, request_tsig, request_mac, signed_request};
+ghost use Rattle.sec_tsig.specs.FirstMessages.{request_header, request_tsig, request_mac, with_request_tsig};
+ghost use Rattle.sec_tsig.specs.FirstMessages.{sign_error, signed_request};
 
+use crate::header::Header;
 use crate::mac_input::feed_request;
 use crate::outline::Outline;
-use crate::parts::Header;
+use crate::record_walk::has_only;
 use crate::signature_view::SignatureView;
 use crate::tsig_record::with_tsig;
 use crate::verifier::FirstVerifier;
@@ -23,14 +25,11 @@ use dns_names::Name;
 use dns_types::RecordType;
 use dns_wire::EmitError;
 use sec_digest::{Hmac, HmacHash, Mac};
-use sec_sigdata::{TsigAlgorithm, BorrowedTsig};
+use sec_sigdata::{BorrowedTsig, TsigAlgorithm};
 use std::alloc::{AllocError, Global};
 use std::fmt;
 use std::marker::Model;
 use thiserror::Error;
-
-/// The number of octets of the longest message.
-const MESSAGE_LIMIT: usize = 65535;
 
 /// A key, by which requests are signed and their answers checked (RFC 8945).
 #[derive(Drop)]
@@ -78,19 +77,18 @@ impl From<AllocError> for FirstSignError {
     }
 }
 
-impl From<EmitError> for FirstSignError {
-    ghost use Rattle.std.specs.Prelude.{◌≡◌};
-    ghost use Rattle.sec_tsig.specs.declared.signer.FirstSignError.TheVariants.{OutOfMemory};
-
-    ghost from_gives = { λ _ e. e ≡ OutOfMemory };
-
-    fn from(_e: EmitError) -> FirstSignError {
-        FirstSignError::OutOfMemory
+/// Why a request was not signed, by why its TSIG record was not put behind it.
+fn sign_error(cause: EmitError) -> FirstSignError
+    ensures { result ≡ sign_error cause }
+{
+    match cause {
+        EmitError::OutOfMemory => FirstSignError::OutOfMemory,
+        _ => FirstSignError::BadRequest,
     }
 }
 
 /// Whether an algorithm is HMAC with a hash function, the MAC not cut.
-fn is_hmac(algorithm: &TsigAlgorithm, hash: HmacHash) -> bool
+fn uses_hash(algorithm: &TsigAlgorithm, hash: HmacHash) -> bool
     requires { algorithm.now ≡ tsig_algorithm_named (algorithm_name algorithm.now) }
     ensures { result ≡ bytes_eq (wire (algorithm_name (algorithm_with hash))) (wire (algorithm_name algorithm.now)) }
 {
@@ -107,9 +105,9 @@ fn request_header(octets: &[u8]) -> Option<Header>
     ensures header { OnSome result (12 ≤ length octets.now) }
 {
     let types = [RecordType::A, RecordType::OPT];
-    match Outline::read(octets, &types) {
+    match Outline::read(octets) {
         Ok(outline) => {
-            if outline.end == octets.len() && outline.types_pass {
+            if outline.end == octets.len() && has_only(octets, &types) {
                 Some(outline.header)
             } else {
                 None
@@ -132,7 +130,7 @@ impl FirstSigner {
         }
     }
 
-    /// The same signer once more.
+    /// A copy of the signer.
     fn try_clone(&self) -> Result<FirstSigner, AllocError>
         ensures { IfOk result (λ signer. signer ≡ self.now) }
     {
@@ -163,7 +161,7 @@ impl FirstSigner {
         requires { TsigIsByNumber (borrowed_fields signature.now.tsig) }
         ensures { result ≡ has_signers_key self.now (signature_view signature.now) }
     {
-        self.name == signature.name && is_hmac(&signature.tsig.algorithm, self.algorithm)
+        self.name == signature.name && uses_hash(&signature.tsig.algorithm, self.algorithm)
     }
 
     /// The data of the TSIG record of a request with this ID.
@@ -206,19 +204,24 @@ impl FirstSigner {
     ) -> Result<Vec<u8>, EmitError>
         requires time { time < 2 ^ 48 }
         requires header { 12 ≤ length octets.now }
-        requires room { header.now.additionals < 65535 }
-        ensures { IfOk result (λ signed. option_and_then (join octets.now header.now.additionals) (result_ok (tsig_record self.now.name (request_tsig self.now time header.now.id (mac_octets mac.now)))) ≡ Some signed.items) }
+        requires mac { mac_octets mac.now ≡ request_mac self.now time header.now.id octets.now }
+        ensures given { GivesUnless EmitError.OutOfMemory (λ v. v.items) result
+            (with_request_tsig self.now time (header_view header.now) octets.now) }
+        ensures refused { (cause : EmitError)
+            → with_request_tsig self.now time (header_view header.now) octets.now ≡ Err cause → result ≡ Err cause }
     {
         let tsig = self.request_tsig(header.id, time, mac.as_slice());
         with_tsig(alloc, octets, header.additionals, &self.name, &tsig)
     }
 
-    /// Signs a request that is sent at `time`, in seconds from 1970 on: the signed request, and what checks the answer to it.
+    /// Signs a request that is sent at `time`, in seconds from 1970 on: the signed request, and what checks the answer
+    /// to it.
     ///
     /// # Errors
     ///
-    /// `BadRequest` where the octets are no message, where octets stand behind it, where it has a record of another type than A and OPT
-    /// or 65,535 additional records, and where the signed request would have more than 65,535 octets. `OutOfMemory` where there is none.
+    /// `BadRequest` where the octets are no message, where octets stand behind it, where it has a record of another
+    /// type than A and OPT or 65,535 additional records, and where the signed request would have more than 65,535
+    /// octets. `OutOfMemory` where there is none.
     pub fn sign_request(
         &self,
         alloc: Global,
@@ -228,19 +231,18 @@ impl FirstSigner {
         requires { time < 2 ^ 48 }
         ensures signed { IfOk result (λ x. signed_request self.now time octets.now ≡ Some (x.0.items, x.1)) }
         ensures refused { result ≡ Err FirstSignError.BadRequest → signed_request self.now time octets.now ≡ None }
+        ensures bad { signed_request self.now time octets.now ≡ None → result ≡ Err FirstSignError.BadRequest }
     {
         let Some(header) = request_header(octets) else {
             return Err(FirstSignError::BadRequest);
         };
-        if header.additionals == u16::MAX {
-            return Err(FirstSignError::BadRequest);
-        }
         let mac = self.request_mac(octets, header.id, time);
-        let signed = self.with_request_tsig(alloc, octets, &header, time, &mac)?;
-        if signed.len() > MESSAGE_LIMIT {
-            return Err(FirstSignError::BadRequest);
+        match self.with_request_tsig(alloc, octets, &header, time, &mac) {
+            Ok(signed) => {
+                let verifier = FirstVerifier::new(self.try_clone()?, time, mac);
+                Ok((signed, verifier))
+            }
+            Err(cause) => Err(sign_error(cause)),
         }
-        let verifier = FirstVerifier::new(self.try_clone()?, time, mac);
-        Ok((signed, verifier))
     }
 }

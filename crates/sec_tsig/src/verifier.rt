@@ -1,31 +1,32 @@
 //! Checking the answer to a signed request.
 ghost use Rattle.std.specs.Prelude.{◌≡◌, true, Ok};
 ghost use Rattle.dns_grammar.specs.Tables.{short_table};
-ghost use Rattle.dns_grammar.specs.Messages.{outline_at};
+ghost use Rattle.dns_grammar.specs.Messages.{message_at};
 ghost use Rattle.std.specs.Option.{option_map, ForSome};
 ghost use Rattle.std.specs.Str.{bytes_eq};
-ghost use Rattle.dns_wire.specs.Reading.{GivesUnless};
+ghost use Rattle.dns_wire.specs.Reading.{Gives, GivesUnless};
 ghost use Rattle.sec_digest.specs.Mac.{mac_octets};
-ghost use Rattle.sec_tsig.specs.Views.{header_view, is_one_of, outline_view, signature_view, IsPlaced};
+ghost use Rattle.sec_tsig.specs.Views.{header_view, outlined, outline_view, signature_view, IsPlaced};
 ghost use Rattle.sec_sigdata.specs.TsigRecords.{borrowed_fields, TsigFits};
-ghost use Rattle.sec_tsig.specs.Verdict.{expected_mac, is_in_time, signature_verdict, tsig_verdict};
-ghost use Rattle.sec_tsig.specs.Causes.{Judges};
-ghost use Rattle.sec_tsig.specs.FirstMessages.{answer_types, first_answer};
+ghost use Rattle.sec_tsig.specs.Verdict.{accepted, expected_mac, is_in_time, signature_verdict, tsig_verdict};
+ghost use Rattle.sec_tsig.specs.FirstMessages.{first_answer};
 
 use crate::first_set::FirstSet;
+use crate::header::Header;
 use crate::mac_input::feed_mac_input;
 use crate::outline::Outline;
-use crate::parts::Header;
-use crate::record_sets::record_sets;
+use crate::record_walk::{has_only, record_sets};
 use crate::signature_view::SignatureView;
 use crate::signer::FirstSigner;
+use crate::verify_error::VerifyError;
 use dns_types::RecordType;
 use sec_digest::Mac;
 use std::alloc::Global;
 use std::marker::Model;
 use thiserror::Error;
 
-/// Checks the first answer to a signed request: the signer, the time of the request, the last MAC and the last time signed.
+/// Checks the first answer to a signed request: the signer, the time of the request, the last MAC and the last time
+/// signed.
 #[derive(Debug, Drop)]
 pub struct FirstVerifier {
     signer: FirstSigner,
@@ -41,7 +42,13 @@ impl Model for FirstVerifier {
 
     ghost Value = { Chain };
 
-    ghost view = { λ s. record { signer = s.signer; request_time = s.request_time; mac = mac_octets s.mac; time = s.time; first = s.first } };
+    ghost view = { λ s. record {
+      signer = s.signer;
+      request_time = s.request_time;
+      mac = mac_octets s.mac;
+      time = s.time;
+      first = s.first;
+    } };
 }
 
 /// Why an answer gives no record sets: the first that holds.
@@ -61,21 +68,16 @@ pub enum FirstError {
     OutOfMemory,
 }
 
-/// Why a message is no valid answer: the first that holds.
-#[derive(Clone, Copy, Debug, PartialEq, Eq)]
-pub(crate) enum VerifyError {
-    MissingTsig,
-    TsigWrongKey,
-    TruncatedMac,
-    HmacInvalid,
-    Outdated,
-    NotAResponse,
-}
-
 impl FirstVerifier {
     /// A verifier of the first answer to a request with this MAC.
     pub(crate) fn new(signer: FirstSigner, request_time: u64, mac: Mac) -> FirstVerifier
-        ensures { result ≡ record { signer = signer; request_time = request_time; mac = mac_octets mac; time = 0; first = true } }
+        ensures { result ≡ record {
+          signer = signer;
+          request_time = request_time;
+          mac = mac_octets mac;
+          time = 0;
+          first = true;
+        } }
     {
         FirstVerifier {
             signer,
@@ -101,7 +103,8 @@ impl FirstVerifier {
     /// Whether the TSIG has the MAC that the message must have.
     fn has_mac(&self, octets: &[u8], header: &Header, signature: &SignatureView<'_>) -> bool
         requires { IsPlaced 12 octets.now header.now signature.now }
-        ensures { result ≡ bytes_eq signature.now.tsig.mac.now (expected_mac self.now octets.now (header_view header.now) (signature_view signature.now)) }
+        ensures { result ≡ bytes_eq signature.now.tsig.mac.now
+            (expected_mac self.now octets.now (header_view header.now) (signature_view signature.now)) }
     {
         let mut hasher = self.signer.hasher();
         feed_mac_input(
@@ -124,7 +127,8 @@ impl FirstVerifier {
         signature: &SignatureView<'_>,
     ) -> Result<(), VerifyError>
         requires { IsPlaced 12 octets.now header.now signature.now }
-        ensures { Judges result (signature_verdict self.now octets.now (header_view header.now) (signature_view signature.now)) }
+        ensures { Gives (λ u. u) result (accepted
+            (signature_verdict self.now octets.now (header_view header.now) (signature_view signature.now))) }
     {
         if !self.signer.has_key_of(signature) {
             return Err(VerifyError::TsigWrongKey);
@@ -147,7 +151,9 @@ impl FirstVerifier {
     /// The verdict on a message.
     fn verdict(&self, octets: &[u8], outline: &Outline<'_>) -> Result<(), VerifyError>
         requires { ForSome outline.now.signature (IsPlaced 12 octets.now outline.now.header) }
-        ensures { Judges result (tsig_verdict self.now octets.now (header_view outline.now.header) (option_map signature_view outline.now.signature)) }
+        ensures { Gives (λ u. u) result (accepted
+            (tsig_verdict self.now octets.now (header_view outline.now.header)
+            (option_map signature_view outline.now.signature))) }
     {
         match &outline.signature {
             None => Err(VerifyError::MissingTsig),
@@ -162,11 +168,12 @@ impl FirstVerifier {
         octets: &[u8],
         outline: &Outline<'_>,
     ) -> Result<Vec<FirstSet>, FirstError>
-        requires read { outline_at short_table (is_one_of answer_types) octets.now ≡ Ok (outline_view outline.now) }
+        requires read { outlined (message_at short_table octets.now) ≡ Ok (outline_view outline.now) }
         requires placed { ForSome outline.now.signature (IsPlaced 12 octets.now outline.now.header) }
         ensures { GivesUnless FirstError.OutOfMemory (λ sets. sets.items) result (first_answer self.now octets.now) }
     {
-        if !outline.types_pass {
+        let types = [RecordType::A, RecordType::OPT, RecordType::TSIG];
+        if !has_only(octets, &types) {
             return Err(FirstError::NotBuilt);
         }
         if self.verdict(octets, outline).is_err() {
@@ -182,14 +189,14 @@ impl FirstVerifier {
     ///
     /// # Errors
     ///
-    /// `Decode` where the octets are no message, `NotBuilt` where it has a record of another type than A, OPT and TSIG, and `Invalid`
-    /// where its TSIG is missing, of another key or algorithm, has a MAC that is cut or wrong, where it was signed at a time whose window
-    /// does not hold the time of the request, and where it is no response. `OutOfMemory` where there is none.
+    /// `Decode` where the octets are no message, `NotBuilt` where it has a record of another type than A, OPT and TSIG,
+    /// and `Invalid` where its TSIG is missing, of another key or algorithm, has a MAC that is cut or wrong, where it
+    /// was signed at a time whose window does not hold the time of the request, and where it is no response.
+    /// `OutOfMemory` where there is none.
     pub fn answer(&self, alloc: Global, octets: &[u8]) -> Result<Vec<FirstSet>, FirstError>
         ensures { GivesUnless FirstError.OutOfMemory (λ sets. sets.items) result (first_answer self.now octets.now) }
     {
-        let types = [RecordType::A, RecordType::OPT, RecordType::TSIG];
-        match Outline::read(octets, &types) {
+        match Outline::read(octets) {
             Err(_) => Err(FirstError::Decode),
             Ok(outline) => self.answer_of(alloc, octets, &outline),
         }

@@ -2,7 +2,7 @@
 //!
 //! The key is twenty octets 0b, its name `k.`, the fudge 300.
 
-use crate::{FirstError, FirstSignError, FirstSigner, FirstVerifier};
+use sec_tsig::{FirstError, FirstSignError, FirstSigner, FirstVerifier};
 use dns_names::Name;
 use dns_types::{DNSClass, RecordType};
 use std::alloc::Global;

@@ -2,7 +2,7 @@ use Rattle.std.proofs.Common.{ap, sym, ◌∙◌, true, false, List}
 use Rattle.sec_tsig.specs.declared.first_set.FirstSet.{FirstSet}
 use Rattle.sec_tsig.specs.RecordSets.{with_set}
 use Rattle.sec_tsig.proofs.KeySteps.{knows_new, listed_known, listed_new, was_there}
-use Rattle.sec_tsig.proofs.set_list.SetList.with.Goals as goal
+use Rattle.sec_tsig.proofs.set_list.SetList.insert.Goals as goal
 
 pub returns-then-not-branch : goal.returns-then-not-branch
 returns-then-not-branch c =
@@ -18,5 +18,5 @@ pub returns : goal.returns
 returns c =
     let was = was_there c.args.set c.key.result c.key.ensures c.self.inside.sets.items c.self.inside.seen c.insert.new.self c.in_ok-insert.field-0 c.in_ok-insert.ensures.added c.in_ok-insert.ensures.updates.0 c.self.invariant in
     c.in_ok-push.ensures.items
-    ∙ listed_new c.args.set c.self.inside.sets.items (sym c.is_listed.ensures ∙ c.if-not-is_listed.false) (was true c.if-not-branch.false)
+    ∙ listed_new c.args.set c.self.inside.sets.items (sym c.forms_rrset.ensures ∙ c.if-not-forms_rrset.false) (was true c.if-not-branch.false)
     ∙ ap (λ (s : List FirstSet). with_set s c.args.set) c.self.view_is

@@ -1,6 +1,6 @@
 use Rattle.std.proofs.Common.{arith}
 use Rattle.sec_tsig.proofs.NumberEnds.{number_end}
-use Rattle.sec_tsig.proofs.parts.Header.read.Goals as goal
+use Rattle.sec_tsig.proofs.header.Header.read.Goals as goal
 
 -- six numbers of two octets
 pub returns-clause-place : goal.returns-clause-place
