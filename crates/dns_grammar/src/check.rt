@@ -33,17 +33,18 @@ pub trait TestedField {
         ensures inside { place decoder.new ≤ end };
 }
 
-/// No field is tested.
+/// No test: the octets that are left, whatever they are. It stands where a table has no field with a test.
 #[derive(Clone, Copy, Debug)]
-pub enum Untested {}
+pub struct Untested;
 
 impl TestedField for Untested {
     ghost use Rattle.dns_grammar.specs.Fields.{Rest, any};
 
     ghost field = { λ _. any Rest };
 
-    fn skip(&self, _decoder: &mut BinDecoder<'_>, _end: usize) -> Result<(), DecodeError> {
-        match *self {}
+    fn skip(&self, decoder: &mut BinDecoder<'_>, end: usize) -> Result<(), DecodeError> {
+        decoder.set_index(end);
+        Ok(())
     }
 }
 

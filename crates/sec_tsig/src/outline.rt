@@ -156,22 +156,10 @@ impl<'a> Outline<'a> {
         }
     }
 
-    /// The same with a table of jumps for the message that the decoder reads.
-    fn read_body(header: Header, reader: BinDecoder<'a>) -> Result<Outline<'a>, DecodeError>
-        ensures exact { Gives outline_view result
-            (outlined (body_at short_table (octets reader.entry) (header_view header) (place reader.entry))) }
-        ensures placed { IfOk result (λ outline.
-            ForSome outline.signature (IsPlaced (place reader.entry) (octets reader.entry) outline.header)) }
-    {
-        with_jumps(
-            reader.buffer(),
-            |jumps| Outline::read_behind(header, reader, jumps),
-        )
-    }
-
-    /// The outline of the message in these octets.
+    /// The outline of the message in these octets, by a table of jumps.
     #[tactic(auto, unfolding(dns_grammar::specs::Messages::message_at))]
-    pub(crate) fn read(message: &'a [u8]) -> Result<Outline<'a>, DecodeError>
+    fn read_with(message: &'a [u8], jumps: &mut [u16]) -> Result<Outline<'a>, DecodeError>
+        requires { AreJumps message.now jumps.old }
         ensures exact { Gives outline_view result (outlined (message_at short_table message.now)) }
         ensures header { OnOk result (12 ≤ length message.now) }
         ensures placed { IfOk result (λ outline. ForSome outline.signature (IsPlaced 12 message.now outline.header)) }
@@ -180,6 +168,15 @@ impl<'a> Outline<'a> {
             return Err(DecodeError::MessageTooLong);
         }
         let (header, reader) = Header::read(message)?;
-        Outline::read_body(header, reader)
+        Outline::read_behind(header, reader, jumps)
+    }
+
+    /// The outline of the message in these octets.
+    pub(crate) fn read(message: &'a [u8]) -> Result<Outline<'a>, DecodeError>
+        ensures exact { Gives outline_view result (outlined (message_at short_table message.now)) }
+        ensures header { OnOk result (12 ≤ length message.now) }
+        ensures placed { IfOk result (λ outline. ForSome outline.signature (IsPlaced 12 message.now outline.header)) }
+    {
+        with_jumps(message, |jumps| Outline::read_with(message, jumps))
     }
 }
