@@ -32,9 +32,12 @@ use Rattle.sec_keydata.proofs.TextsBack.{decimal_no_blank, decimal_some, number_
 four_words : (x y z text : List ℕ) → NoBlank x → 0 < length x → NoBlank y → 0 < length y → NoBlank z → 0 < length z
     → words (x ++ codes " " ++ y ++ codes " " ++ z ++ codes " " ++ text) ≡ x ∷ y ∷ z ∷ words text
 four_words x y z text clear_x some_x clear_y some_y clear_z some_z =
-    let apart : x ++ codes " " ++ y ++ codes " " ++ z ++ codes " " ++ text ≡ x ++ 32 ∷ (y ++ 32 ∷ (z ++ 32 ∷ text)) = simp append_assoc in
+    let apart : x ++ codes " " ++ y ++ codes " " ++ z ++ codes " " ++ text ≡ x ++ 32 ∷ (y ++ 32 ∷ (z ++ 32 ∷ text)) =
+    simp append_assoc in
     ap words apart ∙ (word_before x 32 (y ++ 32 ∷ (z ++ 32 ∷ text)) clear_x some_x refl
-    ∙ ap (λ t. x ∷ t) (word_before y 32 (z ++ 32 ∷ text) clear_y some_y refl ∙ ap (λ t. y ∷ t) (word_before z 32 text clear_z some_z refl)))
+    ∙ ap (λ t. x ∷ t)
+    (word_before y 32 (z ++ 32 ∷ text) clear_y some_y refl
+    ∙ ap (λ t. y ∷ t) (word_before z 32 text clear_z some_z refl)))
 
 -- ---- algorithms
 
@@ -42,7 +45,8 @@ begins_with_digit : List ℕ → Bool
 begins_with_digit [] = false
 begins_with_digit (c ∷ _) = is_ascii_digit c
 
-differs : (c : ℕ) (cs text : List ℕ) → is_ascii_digit c ≡ true → begins_with_digit text ≡ false → bytes_eq (c ∷ cs) text ≡ false
+differs : (c : ℕ) (cs text : List ℕ) → is_ascii_digit c ≡ true → begins_with_digit text ≡ false
+    → bytes_eq (c ∷ cs) text ≡ false
 unfolding begins_with_digit
 differs c cs [] is other = refl
 differs c cs (x ∷ text) is other = elim (cases_Bool (nat_eq c x)) [
@@ -51,7 +55,8 @@ differs c cs (x ∷ text) is other = elim (cases_Bool (nat_eq c x)) [
 ]
 
 -- no mnemonic begins with a digit
-unnamed_in : (table : List (List ℕ × Algorithm)) (c : ℕ) (cs : List ℕ) → is_ascii_digit c ≡ true → AllByRecursion (λ entry. begins_with_digit entry.0 ≡ false) table → algorithm_beside table (c ∷ cs) ≡ None
+unnamed_in : (table : List (List ℕ × Algorithm)) (c : ℕ) (cs : List ℕ) → is_ascii_digit c ≡ true
+    → AllByRecursion (λ entry. begins_with_digit entry.0 ≡ false) table → algorithm_beside table (c ∷ cs) ≡ None
 unnamed_in [] c cs is others = refl
 unnamed_in (entry ∷ table) c cs is others = rw (differs c cs entry.0 is others.0) (unnamed_in table c cs is others.1)
 
@@ -75,7 +80,8 @@ algorithm_back n few =
 upper_hex-encode : (octets : List ℕ) → upper_hex octets ≡ encode_upper octets
 unfolding encode_with
 upper_hex-encode [] = refl
-upper_hex-encode (x ∷ octets) = ap (λ t. slice_index upper_digits (x / 16) ∷ slice_index upper_digits (x % 16) ∷ t) (upper_hex-encode octets)
+upper_hex-encode (x ∷ octets) =
+    ap (λ t. slice_index upper_digits (x / 16) ∷ slice_index upper_digits (x % 16) ∷ t) (upper_hex-encode octets)
 
 length-upper_hex : (octets : List ℕ) → length (upper_hex octets) ≡ 2 * length octets
 length-upper_hex [] = refl
@@ -90,27 +96,43 @@ hex_no_blank (x ∷ octets) = (digit (x / 16), (digit (x % 16), hex_no_blank oct
 
 hex_back : (octets : List ℕ) → AreOctets octets → hex_octets (upper_hex octets) ≡ Ok octets
 hex_back octets are =
-    let pairs : length (upper_hex octets) ≤ length (upper_hex octets) / 2 * 2 = omega (arith, length-upper_hex octets) in
-    let whole : take (length (upper_hex octets) / 2 * 2) (upper_hex octets) ≡ encode_upper octets = take_all (length (upper_hex octets) / 2 * 2) (upper_hex octets) pairs ∙ upper_hex-encode octets in
-    let back : decode_of (encode_upper octets) ≡ Ok octets = decode_of-encode_upper octets (at_place (λ octet. octet < 256) octets are (omega arith)) in
+    let pairs : length (upper_hex octets) ≤ length (upper_hex octets) / 2 * 2 =
+    omega (arith, length-upper_hex octets) in
+    let whole : take (length (upper_hex octets) / 2 * 2) (upper_hex octets) ≡ encode_upper octets =
+    take_all (length (upper_hex octets) / 2 * 2) (upper_hex octets) pairs ∙ upper_hex-encode octets in
+    let back : decode_of (encode_upper octets) ≡ Ok octets =
+    decode_of-encode_upper octets (at_place (λ octet. octet < 256) octets are (omega arith)) in
     ap (λ t. ok_or (result_ok (decode_of t)) BadHex) whole ∙ ap (λ r. ok_or (result_ok r) BadHex) back
 
 -- ---- DS
 
-ds_of : (x y z text : List ℕ) (tag n kind : ℕ) (octets : List ℕ) → number_in (2 ^ 16) x ≡ Ok tag → algorithm_in y ≡ Ok (algorithm_numbered n) → number_in (2 ^ 8) z ≡ Ok kind → hex_octets text ≡ Ok octets
-    → ds_in (x ∷ y ∷ z ∷ text ∷ []) ≡ Ok (record { key_tag = tag; algorithm = algorithm_numbered n; digest_type = digest_type kind; digest = octets })
+ds_of : (x y z text : List ℕ) (tag n kind : ℕ) (octets : List ℕ) → number_in (2 ^ 16) x ≡ Ok tag
+    → algorithm_in y ≡ Ok (algorithm_numbered n) → number_in (2 ^ 8) z ≡ Ok kind → hex_octets text ≡ Ok octets
+    → ds_in (x ∷ y ∷ z ∷ text ∷ []) ≡ Ok (record {
+      key_tag = tag;
+      algorithm = algorithm_numbered n;
+      digest_type = digest_type kind;
+      digest = octets;
+    })
 ds_of x y z text tag n kind octets a b c d = rw (a, b, c, append-nil text, d) refl
 
-ds_without_digest : (x y z : List ℕ) (tag n kind : ℕ) → number_in (2 ^ 16) x ≡ Ok tag → algorithm_in y ≡ Ok (algorithm_numbered n) → number_in (2 ^ 8) z ≡ Ok kind → ds_in (x ∷ y ∷ z ∷ []) ≡ Err (Missing Digest)
+ds_without_digest : (x y z : List ℕ) (tag n kind : ℕ) → number_in (2 ^ 16) x ≡ Ok tag
+    → algorithm_in y ≡ Ok (algorithm_numbered n) → number_in (2 ^ 8) z ≡ Ok kind
+    → ds_in (x ∷ y ∷ z ∷ []) ≡ Err (Missing Digest)
 ds_without_digest x y z tag n kind a b c = rw (a, b, c) refl
 
-module _ (ds : DsData) (small : ds.key_tag < 2 ^ 16) (few : number ds.algorithm < 2 ^ 8) (fewer : digest_number ds.digest_type < 2 ^ 8) where
-  words_are : words (ds_text ds) ≡ decimal ds.key_tag ∷ decimal (number ds.algorithm) ∷ decimal (digest_number ds.digest_type) ∷ words (upper_hex ds.digest)
+module _ (ds : DsData) (small : ds.key_tag < 2 ^ 16) (few : number ds.algorithm < 2 ^ 8)
+    (fewer : digest_number ds.digest_type < 2 ^ 8) where
+  words_are : words (ds_text ds)
+      ≡ decimal ds.key_tag ∷ decimal (number ds.algorithm) ∷ decimal (digest_number ds.digest_type) ∷ words
+      (upper_hex ds.digest)
   words_are =
       let few' : number ds.algorithm < 2 ^ 16 = omega (arith, few) in
       let fewer' : digest_number ds.digest_type < 2 ^ 16 = omega (arith, fewer) in
-      four_words (decimal ds.key_tag) (decimal (number ds.algorithm)) (decimal (digest_number ds.digest_type)) (upper_hex ds.digest)
-      (decimal_no_blank ds.key_tag small) (decimal_some ds.key_tag small) (decimal_no_blank (number ds.algorithm) few') (decimal_some (number ds.algorithm) few')
+      four_words (decimal ds.key_tag) (decimal (number ds.algorithm)) (decimal (digest_number ds.digest_type))
+      (upper_hex ds.digest)
+      (decimal_no_blank ds.key_tag small) (decimal_some ds.key_tag small) (decimal_no_blank (number ds.algorithm) few')
+      (decimal_some (number ds.algorithm) few')
       (decimal_no_blank (digest_number ds.digest_type) fewer') (decimal_some (digest_number ds.digest_type) fewer')
 
   tag_back : number_in (2 ^ 16) (decimal ds.key_tag) ≡ Ok ds.key_tag
@@ -122,17 +144,30 @@ module _ (ds : DsData) (small : ds.key_tag < 2 ^ 16) (few : number ds.algorithm 
   pub digest_text_back : DsIsByNumber ds → AreOctets ds.digest → 0 < length ds.digest → token_ds (ds_text ds) ≡ Ok ds
   digest_text_back named are some =
       let text : List ℕ = upper_hex ds.digest in
-      let alone : words text ≡ text ∷ [] = word_alone text (hex_no_blank ds.digest) (omega (arith, some, length-upper_hex ds.digest)) in
-      ap ds_in (words_are ∙ ap (λ t. decimal ds.key_tag ∷ decimal (number ds.algorithm) ∷ decimal (digest_number ds.digest_type) ∷ t) alone)
-      ∙ (ds_of (decimal ds.key_tag) (decimal (number ds.algorithm)) (decimal (digest_number ds.digest_type)) text ds.key_tag (number ds.algorithm) (digest_number ds.digest_type) ds.digest
+      let alone : words text ≡ text ∷ [] =
+      word_alone text (hex_no_blank ds.digest) (omega (arith, some, length-upper_hex ds.digest)) in
+      ap ds_in (words_are
+      ∙ ap (λ t. decimal ds.key_tag ∷ decimal (number ds.algorithm) ∷ decimal (digest_number ds.digest_type) ∷ t)
+      alone)
+      ∙ (ds_of (decimal ds.key_tag) (decimal (number ds.algorithm)) (decimal (digest_number ds.digest_type)) text
+      ds.key_tag (number ds.algorithm) (digest_number ds.digest_type) ds.digest
       tag_back (algorithm_back (number ds.algorithm) few) kind_back (hex_back ds.digest are)
-      ∙ (λ i. let ok : Result DsData TokenError = Ok (record { key_tag = ds.key_tag; algorithm = sym named.algorithm i; digest_type = sym named.digest_type i; digest = ds.digest }) in ok))
+      ∙ (λ i. let ok : Result DsData TokenError = Ok
+      (record {
+        key_tag = ds.key_tag;
+        algorithm = sym named.algorithm i;
+        digest_type = sym named.digest_type i;
+        digest = ds.digest;
+      }) in ok))
 
   pub empty_digest_text_back : length ds.digest ≡ 0 → token_ds (ds_text ds) ≡ Err (Missing Digest)
   empty_digest_text_back none =
       let empty : ds.digest ≡ [] = nil_from_length ds.digest none in
-      ap ds_in (words_are ∙ ap (λ t. decimal ds.key_tag ∷ decimal (number ds.algorithm) ∷ decimal (digest_number ds.digest_type) ∷ t) (ap (λ o. words (upper_hex o)) empty))
-      ∙ ds_without_digest (decimal ds.key_tag) (decimal (number ds.algorithm)) (decimal (digest_number ds.digest_type)) ds.key_tag (number ds.algorithm) (digest_number ds.digest_type)
+      ap ds_in (words_are
+      ∙ ap (λ t. decimal ds.key_tag ∷ decimal (number ds.algorithm) ∷ decimal (digest_number ds.digest_type) ∷ t)
+      (ap (λ o. words (upper_hex o)) empty))
+      ∙ ds_without_digest (decimal ds.key_tag) (decimal (number ds.algorithm)) (decimal (digest_number ds.digest_type))
+      ds.key_tag (number ds.algorithm) (digest_number ds.digest_type)
       tag_back (algorithm_back (number ds.algorithm) few) kind_back
 
 pub ruleset digest_texts_back = (digest_text_back, empty_digest_text_back)

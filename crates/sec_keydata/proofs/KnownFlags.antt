@@ -16,7 +16,8 @@ HasSome None = ⊥
 
 -- the two tests
 both_clear : (n : ℕ) (a b : Bool) → eqb (bit_and n 0x2cf0) 0 ≡ a → eqb (bit_and n 0x1000) 0 ≡ b
-    → cond a (cond b None (Some (ExtendedKeyFlagsUnsupported n))) (Some (KeyFlagsReserved n)) ≡ None → (bit_and n 0x2cf0 ≡ 0) × (bit_and n 0x1000 ≡ 0)
+    → cond a (cond b None (Some (ExtendedKeyFlagsUnsupported n))) (Some (KeyFlagsReserved n)) ≡ None
+    → (bit_and n 0x2cf0 ≡ 0) × (bit_and n 0x1000 ≡ 0)
 both_clear n true true p q h = (eqb-true (bit_and n 0x2cf0) 0 p, eqb-true (bit_and n 0x1000) 0 q)
 both_clear n true false p q h = absurd (subst HasSome h tt)
 both_clear n false b p q h = absurd (subst HasSome h tt)
@@ -24,11 +25,13 @@ both_clear n false b p q h = absurd (subst HasSome h tt)
 -- a bit of a mask that a number has nothing of is clear in the number
 clear : (n mask i : ℕ) → bit_and n mask ≡ 0 → bit_at mask i ≡ 1 → bit_at n i ≡ 0
 clear n mask i h one =
-    let both : min (bit_at n i) (bit_at mask i) ≡ 0 = sym (bit_at_and n mask i) ∙ (ap (λ x. bit_at x i) h ∙ bit_at-zero i) in
+    let both : min (bit_at n i) (bit_at mask i) ≡ 0 =
+    sym (bit_at_and n mask i) ∙ (ap (λ x. bit_at x i) h ∙ bit_at-zero i) in
     let least : min (bit_at n i) 1 ≡ 0 = subst (λ x. min (bit_at n i) x ≡ 0) one both in
     omega (arith, least)
 
-pub known_flags : (n : ℕ) → n < 2 ^ 16 → key_flags_fault (Num n) ≡ None → n ≡ n / 2 ^ 14 % 4 * 2 ^ 14 + n / 2 ^ 8 % 4 * 2 ^ 8 + n % 16
+pub known_flags : (n : ℕ) → n < 2 ^ 16 → key_flags_fault (Num n) ≡ None
+    → n ≡ n / 2 ^ 14 % 4 * 2 ^ 14 + n / 2 ^ 8 % 4 * 2 ^ 8 + n % 16
 known_flags n small none =
     let t = both_clear n (eqb (bit_and n 0x2cf0) 0) (eqb (bit_and n 0x1000) 0) refl refl none in
     let b4 : n / 16 % 2 ≡ 0 = clear n 0x2cf0 4 t.0 refl in

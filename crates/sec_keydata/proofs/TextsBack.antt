@@ -53,22 +53,29 @@ neither true b h = absurd (cc)
 
 pub no_blanks : (octets : List ℕ) → list_any is_blank octets ≡ false → NoBlank octets
 no_blanks [] h = tt
-no_blanks (x ∷ octets) h = let each = neither (is_blank x) (list_any is_blank octets) h in (each.0, no_blanks octets each.1)
+no_blanks (x ∷ octets) h =
+    let each = neither (is_blank x) (list_any is_blank octets) h in (each.0, no_blanks octets each.1)
 
-before : (word : List ℕ) (blank : ℕ) (rest : List ℕ) → NoBlank word → is_blank blank ≡ true → before_first is_blank (word ++ blank ∷ rest) ≡ word
+before : (word : List ℕ) (blank : ℕ) (rest : List ℕ) → NoBlank word → is_blank blank ≡ true
+    → before_first is_blank (word ++ blank ∷ rest) ≡ word
 before [] blank rest none is = before_yes is_blank blank rest is
-before (x ∷ word) blank rest none is = before_no is_blank x (word ++ blank ∷ rest) none.0 ∙ ap (λ t. x ∷ t) (before word blank rest none.1 is)
+before (x ∷ word) blank rest none is =
+    before_no is_blank x (word ++ blank ∷ rest) none.0 ∙ ap (λ t. x ∷ t) (before word blank rest none.1 is)
 
-after : (word : List ℕ) (blank : ℕ) (rest : List ℕ) → NoBlank word → is_blank blank ≡ true → after_first is_blank (word ++ blank ∷ rest) ≡ rest
+after : (word : List ℕ) (blank : ℕ) (rest : List ℕ) → NoBlank word → is_blank blank ≡ true
+    → after_first is_blank (word ++ blank ∷ rest) ≡ rest
 after [] blank rest none is = after_yes is_blank blank rest is
-after (x ∷ word) blank rest none is = after_no is_blank x (word ++ blank ∷ rest) none.0 ∙ after word blank rest none.1 is
+after (x ∷ word) blank rest none is =
+    after_no is_blank x (word ++ blank ∷ rest) none.0 ∙ after word blank rest none.1 is
 
 -- a word before a blank
-pub word_before : (word : List ℕ) (blank : ℕ) (rest : List ℕ) → NoBlank word → 0 < length word → is_blank blank ≡ true → words (word ++ blank ∷ rest) ≡ word ∷ words rest
+pub word_before : (word : List ℕ) (blank : ℕ) (rest : List ℕ) → NoBlank word → 0 < length word → is_blank blank ≡ true
+    → words (word ++ blank ∷ rest) ≡ word ∷ words rest
 word_before word blank rest none some is =
     let front = before word blank rest none is in
     let behind = after word blank rest none is in
-    words-cut (word ++ blank ∷ rest) (subst (λ (t : List ℕ). 0 < length t) (sym front) some) ∙ (ap (λ t. t ∷ words (after_first is_blank (word ++ blank ∷ rest))) front ∙ ap (λ t. word ∷ words t) behind)
+    words-cut (word ++ blank ∷ rest) (subst (λ (t : List ℕ). 0 < length t) (sym front) some)
+    ∙ (ap (λ t. t ∷ words (after_first is_blank (word ++ blank ∷ rest))) front ∙ ap (λ t. word ∷ words t) behind)
 
 before_end : (word : List ℕ) → NoBlank word → before_first is_blank word ≡ word
 before_end [] none = refl
@@ -82,14 +89,19 @@ after_end (x ∷ word) none = after_no is_blank x word none.0 ∙ after_end word
 pub word_alone : (word : List ℕ) → NoBlank word → 0 < length word → words word ≡ word ∷ []
 word_alone word none some =
     let front = before_end word none in
-    words-cut word (subst (λ (t : List ℕ). 0 < length t) (sym front) some) ∙ (ap (λ t. t ∷ words (after_first is_blank word)) front ∙ ap (λ t. word ∷ words t) (after_end word none))
+    words-cut word (subst (λ (t : List ℕ). 0 < length t) (sym front) some)
+    ∙ (ap (λ t. t ∷ words (after_first is_blank word)) front ∙ ap (λ t. word ∷ words t) (after_end word none))
 
 -- the words of a text as a DNSKEY is printed
-three_words : (x y z : List ℕ) → NoBlank x → 0 < length x → NoBlank y → 0 < length y → words (x ++ codes " 3 " ++ y ++ codes " " ++ z) ≡ x ∷ codes "3" ∷ y ∷ words z
+three_words : (x y z : List ℕ) → NoBlank x → 0 < length x → NoBlank y → 0 < length y
+    → words (x ++ codes " 3 " ++ y ++ codes " " ++ z) ≡ x ∷ codes "3" ∷ y ∷ words z
 three_words x y z clear some none more =
-    let apart : x ++ codes " 3 " ++ y ++ codes " " ++ z ≡ x ++ 32 ∷ (codes "3" ++ 32 ∷ (y ++ 32 ∷ z)) = simp append_assoc in
+    let apart : x ++ codes " 3 " ++ y ++ codes " " ++ z ≡ x ++ 32 ∷ (codes "3" ++ 32 ∷ (y ++ 32 ∷ z)) =
+    simp append_assoc in
     ap words apart ∙ (word_before x 32 (codes "3" ++ 32 ∷ (y ++ 32 ∷ z)) clear some refl
-    ∙ ap (λ t. x ∷ t) (word_before (codes "3") 32 (y ++ 32 ∷ z) (refl, tt) (omega arith) refl ∙ ap (λ t. codes "3" ∷ t) (word_before y 32 z none more refl)))
+    ∙ ap (λ t. x ∷ t)
+    (word_before (codes "3") 32 (y ++ 32 ∷ z) (refl, tt) (omega arith) refl
+    ∙ ap (λ t. codes "3" ∷ t) (word_before y 32 z none more refl)))
 
 -- ---- numbers
 
@@ -116,7 +128,8 @@ decimal_some n small = (decimal_is_IsNumeral n (omega (arith, small))).0.0
 pub number_below-decimal : (limit n : ℕ) → n < limit → n < 2 ^ 16 → number_below limit (decimal n) ≡ Some n
 number_below-decimal limit n lt small =
     let numeral = decimal_is_IsNumeral n (omega (arith, small)) in
-    rw (lt-ltb 0 (length (decimal n)) numeral.0.0, digits_are (decimal n) numeral.0.1, numeral.1, lt-ltb n limit lt) refl
+    rw (lt-ltb 0 (length (decimal n)) numeral.0.0, digits_are (decimal n) numeral.0.1, numeral.1, lt-ltb n limit lt)
+    refl
 
 pub number_back : (limit n : ℕ) → n < limit → n < 2 ^ 16 → number_in limit (decimal n) ≡ Ok n
 number_back limit n lt small = ap (λ o. ok_or o BadNumber) (number_below-decimal limit n lt small)
@@ -134,7 +147,10 @@ unfolding encode_symbols
 symbols_no_blank [] = tt
 symbols_no_blank (a ∷ []) = (symbol (a / 4), (symbol (a % 4 * 16), tt))
 symbols_no_blank (a ∷ b ∷ []) = (symbol (a / 4), (symbol (a % 4 * 16 + b / 16), (symbol (b % 16 * 4), tt)))
-symbols_no_blank (a ∷ b ∷ c ∷ octets) = (symbol (a / 4), (symbol (a % 4 * 16 + b / 16), (symbol (b % 16 * 4 + c / 64), (symbol (c % 64), symbols_no_blank octets))))
+symbols_no_blank (a ∷ b ∷ c ∷ octets) = (
+  symbol (a / 4),
+  (symbol (a % 4 * 16 + b / 16), (symbol (b % 16 * 4 + c / 64), (symbol (c % 64), symbols_no_blank octets))),
+)
 
 some_symbols : (a : ℕ) (octets : List ℕ) → 0 < length (encode_symbols table (a ∷ octets))
 unfolding encode_symbols
@@ -143,11 +159,18 @@ some_symbols a (b ∷ []) = omega arith
 some_symbols a (b ∷ c ∷ octets) = omega arith
 
 base64_no_blank : (octets : List ℕ) → NoBlank (encode_of standard octets)
-base64_no_blank octets = both (λ octet. is_blank octet ≡ false) (encode_symbols table octets) (replicate (padding_len (length octets)) 61) (symbols_no_blank octets) (copies (λ octet. is_blank octet ≡ false) (padding_len (length octets)) 61 refl)
+base64_no_blank octets =
+    both (λ octet. is_blank octet ≡ false) (encode_symbols table octets) (replicate (padding_len (length octets)) 61)
+    (symbols_no_blank octets) (copies (λ octet. is_blank octet ≡ false) (padding_len (length octets)) 61 refl)
 
 base64_some : (octets : List ℕ) → 0 < length octets → 0 < length (encode_of standard octets)
 base64_some [] some = absurd (omega (arith, some))
-base64_some (a ∷ octets) some = omega (arith, some_symbols a octets, length-append (encode_symbols table (a ∷ octets)) (replicate (padding_len (length (a ∷ octets))) 61))
+base64_some (a ∷ octets) some =
+    omega (
+      arith,
+      some_symbols a octets,
+      length-append (encode_symbols table (a ∷ octets)) (replicate (padding_len (length (a ∷ octets))) 61),
+    )
 
 no_text : words (encode_of standard []) ≡ []
 unfolding encode_symbols
@@ -156,23 +179,32 @@ no_text = refl
 base64_back : (octets : List ℕ) → AreOctets octets → base64_octets (encode_of standard octets) ≡ Ok octets
 base64_back octets are =
     let bytes : IsBytes octets = at_place (λ octet. octet < 256) octets are (omega arith) in
-    let same : bytes_eq (encode_of standard octets) (encode_of standard octets) ≡ true = (bytes_eq-Decides (encode_of standard octets) (encode_of standard octets)).1 refl in
+    let same : bytes_eq (encode_of standard octets) (encode_of standard octets) ≡ true =
+    (bytes_eq-Decides (encode_of standard octets) (encode_of standard octets)).1 refl in
     rw (decode_of-encode_of standard octets refl bytes, same) refl
 
 -- ---- DNSKEY
 
-dnskey_of : (x y text : List ℕ) (f n : ℕ) (octets : List ℕ) → number_in (2 ^ 16) x ≡ Ok f → number_in (2 ^ 8) y ≡ Ok n → base64_octets text ≡ Ok octets
-    → dnskey_in (x ∷ codes "3" ∷ y ∷ text ∷ []) ≡ Ok (record { flags = f; public_key = record { octets = octets; algorithm = algorithm_numbered n } })
+dnskey_of : (x y text : List ℕ) (f n : ℕ) (octets : List ℕ) → number_in (2 ^ 16) x ≡ Ok f → number_in (2 ^ 8) y ≡ Ok n
+    → base64_octets text ≡ Ok octets
+    → dnskey_in (x ∷ codes "3" ∷ y ∷ text ∷ []) ≡ Ok (record {
+      flags = f;
+      public_key = record { octets = octets; algorithm = algorithm_numbered n };
+    })
 dnskey_of x y text f n octets flags algorithm key = rw (flags, algorithm, append-nil text, key) refl
 
-dnskey_without_key : (x y : List ℕ) (f n : ℕ) → number_in (2 ^ 16) x ≡ Ok f → number_in (2 ^ 8) y ≡ Ok n → dnskey_in (x ∷ codes "3" ∷ y ∷ []) ≡ Err (Missing PublicKey)
+dnskey_without_key : (x y : List ℕ) (f n : ℕ) → number_in (2 ^ 16) x ≡ Ok f → number_in (2 ^ 8) y ≡ Ok n
+    → dnskey_in (x ∷ codes "3" ∷ y ∷ []) ≡ Err (Missing PublicKey)
 dnskey_without_key x y f n flags algorithm = rw (flags, algorithm) refl
 
 module _ (key : DnsKeyData) (small : key.flags < 2 ^ 16) (few : number key.public_key.algorithm < 2 ^ 8) where
-  words_are : words (dnskey_text key) ≡ decimal key.flags ∷ codes "3" ∷ decimal (number key.public_key.algorithm) ∷ words (encode_of standard key.public_key.octets)
+  words_are : words (dnskey_text key)
+      ≡ decimal key.flags ∷ codes "3" ∷ decimal (number key.public_key.algorithm) ∷ words
+      (encode_of standard key.public_key.octets)
   words_are =
       let less : number key.public_key.algorithm < 2 ^ 16 = omega (arith, few) in
-      three_words (decimal key.flags) (decimal (number key.public_key.algorithm)) (encode_of standard key.public_key.octets) (decimal_no_blank key.flags small) (decimal_some key.flags small)
+      three_words (decimal key.flags) (decimal (number key.public_key.algorithm))
+      (encode_of standard key.public_key.octets) (decimal_no_blank key.flags small) (decimal_some key.flags small)
       (decimal_no_blank (number key.public_key.algorithm) less) (decimal_some (number key.public_key.algorithm) less)
 
   flags_back : number_in (2 ^ 16) (decimal key.flags) ≡ Ok key.flags
@@ -181,18 +213,28 @@ module _ (key : DnsKeyData) (small : key.flags < 2 ^ 16) (few : number key.publi
   algorithm_back : number_in (2 ^ 8) (decimal (number key.public_key.algorithm)) ≡ Ok (number key.public_key.algorithm)
   algorithm_back = number_back (2 ^ 8) (number key.public_key.algorithm) few (omega (arith, few))
 
-  pub text_back : DnsKeyIsByNumber key → AreOctets key.public_key.octets → 0 < length key.public_key.octets → token_dnskey (dnskey_text key) ≡ Ok key
+  pub text_back : DnsKeyIsByNumber key → AreOctets key.public_key.octets → 0 < length key.public_key.octets
+      → token_dnskey (dnskey_text key) ≡ Ok key
   text_back named are some =
       let text : List ℕ = encode_of standard key.public_key.octets in
-      let alone : words text ≡ text ∷ [] = word_alone text (base64_no_blank key.public_key.octets) (base64_some key.public_key.octets some) in
-      ap dnskey_in (words_are ∙ ap (λ t. decimal key.flags ∷ codes "3" ∷ decimal (number key.public_key.algorithm) ∷ t) alone)
-      ∙ (dnskey_of (decimal key.flags) (decimal (number key.public_key.algorithm)) text key.flags (number key.public_key.algorithm) key.public_key.octets flags_back algorithm_back (base64_back key.public_key.octets are)
-      ∙ ap (λ a. let ok : Result DnsKeyData TokenError = Ok (record { flags = key.flags; public_key = record { octets = key.public_key.octets; algorithm = a } }) in ok) (sym named))
+      let alone : words text ≡ text ∷ [] =
+      word_alone text (base64_no_blank key.public_key.octets) (base64_some key.public_key.octets some) in
+      ap dnskey_in
+      (words_are ∙ ap (λ t. decimal key.flags ∷ codes "3" ∷ decimal (number key.public_key.algorithm) ∷ t) alone)
+      ∙ (dnskey_of (decimal key.flags) (decimal (number key.public_key.algorithm)) text key.flags
+      (number key.public_key.algorithm) key.public_key.octets flags_back algorithm_back
+      (base64_back key.public_key.octets are)
+      ∙ ap (λ a. let ok : Result DnsKeyData TokenError = Ok
+      (record { flags = key.flags; public_key = record { octets = key.public_key.octets; algorithm = a } }) in ok)
+      (sym named))
 
   pub keyless_text_back : length key.public_key.octets ≡ 0 → token_dnskey (dnskey_text key) ≡ Err (Missing PublicKey)
   keyless_text_back none =
       let empty : key.public_key.octets ≡ [] = nil_from_length key.public_key.octets none in
-      ap dnskey_in (words_are ∙ ap (λ t. decimal key.flags ∷ codes "3" ∷ decimal (number key.public_key.algorithm) ∷ t) (ap (λ o. words (encode_of standard o)) empty ∙ no_text))
-      ∙ dnskey_without_key (decimal key.flags) (decimal (number key.public_key.algorithm)) key.flags (number key.public_key.algorithm) flags_back algorithm_back
+      ap dnskey_in
+      (words_are ∙ ap (λ t. decimal key.flags ∷ codes "3" ∷ decimal (number key.public_key.algorithm) ∷ t)
+      (ap (λ o. words (encode_of standard o)) empty ∙ no_text))
+      ∙ dnskey_without_key (decimal key.flags) (decimal (number key.public_key.algorithm)) key.flags
+      (number key.public_key.algorithm) flags_back algorithm_back
 
 pub ruleset key_texts_back = (text_back, keyless_text_back)

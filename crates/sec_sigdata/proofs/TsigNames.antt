@@ -41,15 +41,19 @@ one_wire ((x ∷ l) ∷ n) [] e = absurd cc
 one_wire (l ∷ n) (k ∷ z) e =
     let len : length l ≡ length k = first_same (length l) (length k) (l ++ wire n) (k ++ wire z) e in
     let behind : l ++ wire n ≡ k ++ wire z = rest_same (length l) (length k) (l ++ wire n) (k ++ wire z) e in
-    both_same l k n z (same_front l k (wire n) (wire z) len behind) (one_wire n z (same_rest l k (wire n) (wire z) len behind))
+    both_same l k n z (same_front l k (wire n) (wire z) len behind)
+    (one_wire n z (same_rest l k (wire n) (wire z) len behind))
 
-first_named : (a : TsigAlgorithm) (rest : List TsigAlgorithm) (n : List (List ℕ)) (b : Bool) → bytes_eq (wire (algorithm_name a)) (wire n) ≡ b → algorithm_name (algorithm_among rest n) ≡ n
+first_named : (a : TsigAlgorithm) (rest : List TsigAlgorithm) (n : List (List ℕ)) (b : Bool)
+    → bytes_eq (wire (algorithm_name a)) (wire n) ≡ b → algorithm_name (algorithm_among rest n) ≡ n
     → algorithm_name (algorithm_among (a ∷ rest) n) ≡ n
-first_named a rest n true e named = rw e (one_wire (algorithm_name a) n (let d = bytes_eq-Decides (wire (algorithm_name a)) (wire n) in d.0 e))
+first_named a rest n true e named =
+    rw e (one_wire (algorithm_name a) n (let d = bytes_eq-Decides (wire (algorithm_name a)) (wire n) in d.0 e))
 first_named a rest n false e named = rw e named
 
 -- the algorithm of a name has that name
-pub among_named : (algorithms : List TsigAlgorithm) (n : List (List ℕ)) → algorithm_name (algorithm_among algorithms n) ≡ n
+pub among_named : (algorithms : List TsigAlgorithm) (n : List (List ℕ))
+    → algorithm_name (algorithm_among algorithms n) ≡ n
 among_named [] n = refl
 among_named (a ∷ rest) n = first_named a rest n (bytes_eq (wire (algorithm_name a)) (wire n)) refl (among_named rest n)
 
@@ -67,11 +71,14 @@ no_hash : (algorithm : TsigAlgorithm) (hash : HmacHash) → hash_of algorithm �
 no_hash algorithm hash none some = cc
 
 -- an algorithm that is not supported has another name than those that are
-pub other_name : (algorithm : TsigAlgorithm) (hash : HmacHash) → algorithm ≡ tsig_algorithm_named (algorithm_name algorithm) → hash_of algorithm ≡ None
+pub other_name : (algorithm : TsigAlgorithm) (hash : HmacHash)
+    → algorithm ≡ tsig_algorithm_named (algorithm_name algorithm) → hash_of algorithm ≡ None
     → false ≡ bytes_eq (wire (algorithm_name (algorithm_with hash))) (wire (algorithm_name algorithm))
-other_name algorithm hash named none = at (bytes_eq (wire (algorithm_name (algorithm_with hash))) (wire (algorithm_name algorithm))) refl
+other_name algorithm hash named none =
+    at (bytes_eq (wire (algorithm_name (algorithm_with hash))) (wire (algorithm_name algorithm))) refl
   where
-    at : (b : Bool) → bytes_eq (wire (algorithm_name (algorithm_with hash))) (wire (algorithm_name algorithm)) ≡ b → false ≡ b
+    at : (b : Bool) → bytes_eq (wire (algorithm_name (algorithm_with hash))) (wire (algorithm_name algorithm)) ≡ b
+        → false ≡ b
     at false e = refl
     at true e =
         let d = bytes_eq-Decides (wire (algorithm_name (algorithm_with hash))) (wire (algorithm_name algorithm)) in

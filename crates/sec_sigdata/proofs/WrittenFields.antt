@@ -23,13 +23,35 @@ use Rattle.sec_sigdata.specs.Nsec3.{Nsec3Data, nsec3_values}
 
 pub signatures_back : (sig : SigData) → InputFits sig.input → AreReadBack sig_row (sig_values sig)
 signatures_back sig fits =
-    let holds : HoldsAll sig_row (sig_values sig) =
-    (fits.type_covered, refl, (fits.algorithm, refl, (fits.num_labels, refl, (fits.original_ttl, refl, (fits.sig_expiration, refl, (fits.sig_inception, refl, (fits.key_tag, refl, (fits.signer_name, refl, (tt, refl, tt))))))))) in
+    let holds : HoldsAll sig_row (sig_values sig) = (
+      fits.type_covered,
+      refl,
+      (
+        fits.algorithm,
+        refl,
+        (
+          fits.num_labels,
+          refl,
+          (
+            fits.original_ttl,
+            refl,
+            (
+              fits.sig_expiration,
+              refl,
+              (fits.sig_inception, refl, (fits.key_tag, refl, (fits.signer_name, refl, (tt, refl, tt)))),
+            ),
+          ),
+        ),
+      ),
+    ) in
     (_, refl, λ front back. written_row sig_row refl (sig_values sig) _ front back holds (omega arith) refl)
 
 -- what is written of hash parameters
 hash_octets : HashData → List ℕ
-hash_octets hash = to_be_bytes w8 (hash_number hash.hash_algorithm) ++ (to_be_bytes w8 (opt_out_flags hash.opt_out) ++ (to_be_bytes w16 hash.iterations ++ (with_count One hash.salt ++ [])))
+hash_octets hash =
+    to_be_bytes w8 (hash_number hash.hash_algorithm)
+    ++ (to_be_bytes w8 (opt_out_flags hash.opt_out)
+    ++ (to_be_bytes w16 hash.iterations ++ (with_count One hash.salt ++ [])))
 
 number_fits : (algorithm : Nsec3HashAlgorithm) → hash_number algorithm < 2 ^ 8
 number_fits SHA1 = omega arith
@@ -45,47 +67,76 @@ flags_known : (opt_out : Bool) → nsec3_flags_fault (Num (opt_out_flags opt_out
 flags_known true = refl
 flags_known false = refl
 
-pub parameters_back : (hash : HashData) → hash.iterations < 2 ^ 16 → length hash.salt < 2 ^ 8 → AreReadBack nsec3param_row (hash_values hash)
+pub parameters_back : (hash : HashData) → hash.iterations < 2 ^ 16 → length hash.salt < 2 ^ 8
+    → AreReadBack nsec3param_row (hash_values hash)
 unfolding hash_octets
 parameters_back hash small short =
     let test : ltb (length hash.salt) (2 ^ 8) ≡ true = lt-ltb _ _ short in
     let written : fields_octets false nsec3param_row (hash_values hash) ≡ Ok (hash_octets hash) = rw test refl in
-    let holds : HoldsAll nsec3param_row (hash_values hash) =
-    (number_fits hash.hash_algorithm, number_known hash.hash_algorithm, (flags_fit hash.opt_out, flags_known hash.opt_out, (small, refl, (tt, refl, tt)))) in
-    (hash_octets hash, written, λ front back. written_row nsec3param_row refl (hash_values hash) (hash_octets hash) front back holds (omega arith) written)
+    let holds : HoldsAll nsec3param_row (hash_values hash) = (
+      number_fits hash.hash_algorithm,
+      number_known hash.hash_algorithm,
+      (flags_fit hash.opt_out, flags_known hash.opt_out, (small, refl, (tt, refl, tt))),
+    ) in (
+      hash_octets hash,
+      written,
+      λ front back. written_row nsec3param_row refl (hash_values hash) (hash_octets hash) front back holds
+          (omega arith) written,
+    )
 
 -- ---- NSEC and NSEC3
 
 bitmap_known : (x : List ℕ) → IsTrue (is_bitmap x) → bitmap_fault (Str x) ≡ None
 bitmap_known x is = rw is refl
 
-pub nsec_back : (nsec : NsecData) → IsName nsec.next_domain_name → IsTrue (is_bitmap nsec.types) → AreReadBack nsec_row (nsec_values nsec)
+pub nsec_back : (nsec : NsecData) → IsName nsec.next_domain_name → IsTrue (is_bitmap nsec.types)
+    → AreReadBack nsec_row (nsec_values nsec)
 nsec_back nsec name bitmap =
-    let long = length_lt-wire nsec.next_domain_name in
-    (_, refl, λ front back. written_row nsec_row refl (nsec_values nsec) _ front back (name, refl, (tt, bitmap_known nsec.types bitmap, tt)) (omega (arith, long, length-append (wire nsec.next_domain_name) (nsec.types ++ []))) refl)
+    let long = length_lt-wire nsec.next_domain_name in (
+      _,
+      refl,
+      λ front back. written_row nsec_row refl (nsec_values nsec) _ front back
+          (name, refl, (tt, bitmap_known nsec.types bitmap, tt))
+          (omega (arith, long, length-append (wire nsec.next_domain_name) (nsec.types ++ []))) refl,
+    )
 
 -- what is written of an NSEC3
 nsec3_octets : Nsec3Data → List ℕ
 nsec3_octets nsec3 =
     to_be_bytes w8 (hash_number nsec3.hash.hash_algorithm)
     ++ (to_be_bytes w8 (opt_out_flags nsec3.hash.opt_out)
-    ++ (to_be_bytes w16 nsec3.hash.iterations ++ (with_count One nsec3.hash.salt ++ (with_count One nsec3.next_hashed_owner_name ++ (nsec3.types ++ [])))))
+    ++ (to_be_bytes w16 nsec3.hash.iterations
+    ++ (with_count One nsec3.hash.salt ++ (with_count One nsec3.next_hashed_owner_name ++ (nsec3.types ++ [])))))
 
-pub nsec3_back : (nsec3 : Nsec3Data) → nsec3.hash.iterations < 2 ^ 16 → length nsec3.hash.salt < 2 ^ 8 → length nsec3.next_hashed_owner_name < 2 ^ 8 → IsTrue (is_bitmap nsec3.types) → AreReadBack nsec3_row (nsec3_values nsec3)
+pub nsec3_back : (nsec3 : Nsec3Data) → nsec3.hash.iterations < 2 ^ 16 → length nsec3.hash.salt < 2 ^ 8
+    → length nsec3.next_hashed_owner_name < 2 ^ 8 → IsTrue (is_bitmap nsec3.types)
+    → AreReadBack nsec3_row (nsec3_values nsec3)
 unfolding nsec3_octets
 nsec3_back nsec3 small short few bitmap =
     let salt : ltb (length nsec3.hash.salt) (2 ^ 8) ≡ true = lt-ltb _ _ short in
     let hash : ltb (length nsec3.next_hashed_owner_name) (2 ^ 8) ≡ true = lt-ltb _ _ few in
     let written : fields_octets false nsec3_row (nsec3_values nsec3) ≡ Ok (nsec3_octets nsec3) = rw (salt, hash) refl in
     let types = bitmap_known nsec3.types bitmap in
-    let holds : HoldsAll nsec3_row (nsec3_values nsec3) =
-    (number_fits nsec3.hash.hash_algorithm, number_known nsec3.hash.hash_algorithm, (flags_fit nsec3.hash.opt_out, flags_known nsec3.hash.opt_out, (small, refl, (tt, refl, (tt, refl, (tt, types, tt)))))) in
-    (nsec3_octets nsec3, written, λ front back. written_row nsec3_row refl (nsec3_values nsec3) (nsec3_octets nsec3) front back holds (omega arith) written)
+    let holds : HoldsAll nsec3_row (nsec3_values nsec3) = (
+      number_fits nsec3.hash.hash_algorithm,
+      number_known nsec3.hash.hash_algorithm,
+      (
+        flags_fit nsec3.hash.opt_out,
+        flags_known nsec3.hash.opt_out,
+        (small, refl, (tt, refl, (tt, refl, (tt, types, tt)))),
+      ),
+    ) in (
+      nsec3_octets nsec3,
+      written,
+      λ front back. written_row nsec3_row refl (nsec3_values nsec3) (nsec3_octets nsec3) front back holds
+          (omega arith) written,
+    )
 
 -- ---- the signature behind its input
 
 joined_more : (r s t : Result (List ℕ) EmitError) → joined r (joined s t) ≡ joined (joined r s) t
-joined_more (Ok x) (Ok y) (Ok z) = ap (λ (octets : List ℕ). let ok : Result (List ℕ) EmitError = Ok octets in ok) (sym (append_assoc x y z))
+joined_more (Ok x) (Ok y) (Ok z) =
+    ap (λ (octets : List ℕ). let ok : Result (List ℕ) EmitError = Ok octets in ok) (sym (append_assoc x y z))
 joined_more (Ok x) (Ok y) (Err e) = refl
 joined_more (Ok x) (Err e) t = refl
 joined_more (Err e) s t = refl
@@ -95,16 +146,22 @@ none_before (Ok x) = refl
 none_before (Err e) = refl
 
 -- fields, and those behind them
-fields_behind : (canonical : Bool) (fields others : List Field) (values rest : List Value) → length fields ≡ length values
-    → fields_octets canonical (fields ++ others) (values ++ rest) ≡ joined (fields_octets canonical fields values) (fields_octets canonical others rest)
+fields_behind : (canonical : Bool) (fields others : List Field) (values rest : List Value)
+    → length fields ≡ length values
+    → fields_octets canonical (fields ++ others) (values ++ rest)
+    ≡ joined (fields_octets canonical fields values) (fields_octets canonical others rest)
 fields_behind canonical [] others [] rest same = sym (none_before (fields_octets canonical others rest))
 fields_behind canonical (f ∷ fs) others (v ∷ vs) rest same =
     ap (joined (value_octets canonical f.kind v)) (fields_behind canonical fs others vs rest (omega (arith, same)))
-    ∙ joined_more (value_octets canonical f.kind v) (fields_octets canonical fs vs) (fields_octets canonical others rest)
+    ∙ joined_more (value_octets canonical f.kind v) (fields_octets canonical fs vs)
+    (fields_octets canonical others rest)
 fields_behind canonical [] others (v ∷ vs) rest same = absurd (omega (arith, same))
 fields_behind canonical (f ∷ fs) others [] rest same = absurd (omega (arith, same))
 
-pub signature_behind : (canonical : Bool) (sig : SigData) → fields_octets canonical sig_row (sig_values sig) ≡ joined (fields_octets canonical input_row (input_values sig.input)) (Ok sig.sig)
+pub signature_behind : (canonical : Bool) (sig : SigData)
+    → fields_octets canonical sig_row (sig_values sig)
+    ≡ joined (fields_octets canonical input_row (input_values sig.input)) (Ok sig.sig)
 signature_behind canonical sig =
     fields_behind canonical input_row (any Rest ∷ []) (input_values sig.input) (Str sig.sig ∷ []) refl
-    ∙ ap (λ (octets : List ℕ). joined (fields_octets canonical input_row (input_values sig.input)) (Ok octets)) (append-nil sig.sig)
+    ∙ ap (λ (octets : List ℕ). joined (fields_octets canonical input_row (input_values sig.input)) (Ok octets))
+    (append-nil sig.sig)
