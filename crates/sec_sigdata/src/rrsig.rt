@@ -49,7 +49,8 @@ impl Deref for RRSIG {
 }
 
 impl<'r> RecordDataDecodable<'r> for RRSIG {
-    ghost is_read = { ReadsRow sig_row (λ rrsig. sig_values (rrsig_data rrsig)) (λ rrsig. SigIsByNumber (rrsig_data rrsig)) };
+    ghost is_read = { ReadsRow sig_row (λ rrsig. sig_values (rrsig_data rrsig))
+        (λ rrsig. SigIsByNumber (rrsig_data rrsig)) };
 
     /// Reads the fields of a SIG, with its errors.
     fn read_data(
