@@ -7,8 +7,11 @@ PROGRAM is the built program, by default crates/dnscheck/out/dnscheck (`rt run` 
 is given RUNS times, by default 5, and the shortest time is printed, with the status and the number of octets written.
 """
 
+import hashlib
+import hmac
 import os
 import platform
+import struct
 import subprocess
 import sys
 import time
@@ -27,6 +30,41 @@ ANSWER = (
     "016b0000fa00ff00000000003d0b686d61632d736861323536000000000003e8012c0020"
     "bd51d084b43578959c48a9ff978363372f39c9fdcaab2dbedaf304bfbddeb40d123400000000"
 )
+
+SECRET = b"\x0b" * 20
+REQUEST_MAC = bytes.fromhex("56d9a0dbb2ce89ae3200b40be94959a38069d989ca0a0126fc38a6670e7ff40b")
+QUESTION = bytes.fromhex("076578616d706c650000010001")
+ALGORITHM = bytes.fromhex("0b686d61632d73686132353600")
+
+
+def signed(records):
+    """The octets of a response with these answers, signed at the time 1000 (RFC 8945 4.3)."""
+    header = struct.pack(">6H", 0x1234, 0x8180, 1, len(records), 0, 0)
+    body = QUESTION + b"".join(records)
+    times = struct.pack(">HIH", 0, 1000, 300)
+    variables = b"\x01k\0" + struct.pack(">HI", 255, 0) + ALGORITHM + times + struct.pack(">HH", 0, 0)
+    mac = hmac.new(SECRET, struct.pack(">H", 32) + REQUEST_MAC + header + body + variables, hashlib.sha256).digest()
+    data = ALGORITHM + times + struct.pack(">H", 32) + mac + struct.pack(">HHH", 0x1234, 0, 0)
+    tsig = b"\x01k\0" + struct.pack(">HHIH", 250, 255, 0, len(data)) + data
+    return header[:10] + b"\0\x01" + body + tsig
+
+
+def address(owner):
+    return owner + struct.pack(">HHIH", 1, 1, 3600, 4) + b"\xc0\0\x02\x01"
+
+
+def chained():
+    """2,700 addresses whose owner runs through 8,172 pointers, each to the one before it, which stand in OPT data."""
+    start = 12 + len(QUESTION) + 11
+    places = range(start, start + 2 * 8_172, 2)
+    chain = b"".join(struct.pack(">H", 0xC000 | (place - 2 if place > start else 12)) for place in places)
+    opt = b"\0" + struct.pack(">HHIH", 41, 1232, 0, len(chain)) + chain
+    return signed([opt] + [address(struct.pack(">H", 0xC000 | places[-1]))] * 2_700)
+
+
+def ordinary():
+    """3,700 addresses whose owner is a pointer to the question."""
+    return signed([address(b"\xc0\x0c")] * 3_700)
 
 
 def filled(front, line, back):
@@ -50,6 +88,9 @@ def inputs():
     yield "an answer of 8 million octets", 1, filled(KEY + REQUEST + b"answer 0 ", b"00", b"\n")
     yield "a key of 8 million octets", 1, filled(b"key hmac-sha256 k. 300 ", b"0b", b"\n" + REQUEST + short)
     yield "one line of 8 million words", 2, filled(KEY + REQUEST + b"answer 0", b" 0", b"\n")
+    for name, message in ("8,172 pointers to each of 2,700 owners", chained()), ("3,700 ordinary owners", ordinary()):
+        script = KEY + REQUEST + b"answer 0 " + message.hex().encode() + b"\n"
+        yield f"an answer of {len(message):,} octets, {name}", 0, script
     yield "one octet more than the limit", 6, b"\n" * (LIMIT + 1)
 
 

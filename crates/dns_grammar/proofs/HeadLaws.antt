@@ -1,5 +1,6 @@
 -- Headers, questions and records are read exactly where they stand.
-use Rattle.std.proofs.Common.{◌≡◌, ◌≢◌, ◌⊎◌, inl, inr, ℕ, ◌+◌, Bool, true, false, ◌&&◌, cond, eqb, List, length, Result, Ok, Err, refl, sym, ap, subst, ◌∙◌, arith}
+use Rattle.std.proofs.Common.{◌≡◌, ◌≢◌, ◌⊎◌, inl, inr, ℕ, ◌+◌, Bool, true, false, ◌&&◌, cond, eqb, List, length, Result}
+use Rattle.std.proofs.Common.{Ok, Err, refl, sym, ap, subst, ◌∙◌, arith}
 use Rattle.std.specs.Int.{Width, w16, w32, byte_len}
 use Rattle.std.proofs.lemmas.Bool.{eqb-false, ne_eqb}
 use Rattle.dns_wire.specs.declared.error.DecodeError.{DecodeError}
@@ -9,12 +10,14 @@ use Rattle.dns_names.specs.Places.{NameAt, name_at}
 use Rattle.dns_names.proofs.PlaceLaws.{name_at_sound, name_at_complete}
 use Rattle.dns_grammar.specs.Fields.{Table}
 use Rattle.dns_grammar.specs.RecordData.{tsig_type, RDataAt, rdata_at}
-use Rattle.dns_grammar.specs.Messages.{Header, Query, ResourceRecord, RecordHead, HeaderAt, QueryAt, RecordAt, NotTsig, header_at, query_at, head_at, placed, with_data, record_at}
+use Rattle.dns_grammar.specs.Messages.{Header, Query, ResourceRecord, RecordHead, HeaderAt, QueryAt, RecordAt, NotTsig}
+use Rattle.dns_grammar.specs.Messages.{header_at, query_at, head_at, placed, with_data, record_at}
 use Rattle.dns_wire.proofs.FieldLaws.{is_ok_same, bind_ok, number_stands, number_read}
 use Rattle.dns_grammar.proofs.DataLaws.{rdata_stands, rdata_read}
 
 -- a number that was read at a known place, and the place behind it
-number_from : (w : Width) (m : List ℕ) (p n q start end : ℕ) → p ≡ start → start + byte_len w ≡ end → number_at w m p (length m) ≡ Ok (n, q) → NumberAt w m start (length m) n end × (q ≡ end)
+number_from : (w : Width) (m : List ℕ) (p n q start end : ℕ) → p ≡ start → start + byte_len w ≡ end
+    → number_at w m p (length m) ≡ Ok (n, q) → NumberAt w m start (length m) n end × (q ≡ end)
 number_from w m p n q start end from to h =
     let s = number_stands w m p (length m) n q (omega arith) h in
     let next : q ≡ end = s.1.end ∙ ap (λ (k : ℕ). k + byte_len w) from ∙ to in
@@ -58,9 +61,17 @@ query_stands m p query q h =
     let query_class = bind_ok (number_at w16 m query_type.0.1 (length m)) _ (query, q) query_type.2 in
     let fixed : ℕ = name.0.1 in
     let a = number_from w16 m fixed query_type.0.0 query_type.0.1 fixed (fixed + 2) refl refl query_type.1 in
-    let b = number_from w16 m query_type.0.1 query_class.0.0 query_class.0.1 (fixed + 2) (fixed + 4) a.1 (omega arith) query_class.1 in
+    let b = number_from w16 m query_type.0.1 query_class.0.0 query_class.0.1 (fixed + 2) (fixed + 4) a.1
+    (omega arith) query_class.1 in
     subst (λ (y : Query × ℕ). QueryAt m p y.0 y.1) (is_ok_same _ (query, q) query_class.2)
-    (record { fixed = fixed; name = name_at_sound m p (length m) name.0.0 fixed (omega arith) name.1; query_type = a.0; query_class = b.0; end = b.1 })
+    (record {
+      fixed = fixed;
+      name = name_at_sound m p (length m) name.0.0 fixed
+          (omega arith) name.1;
+      query_type = a.0;
+      query_class = b.0;
+      end = b.1;
+    })
 
 pub query_read : (m : List ℕ) (p : ℕ) (query : Query) (q : ℕ) → QueryAt m p query q → query_at m p ≡ Ok (query, q)
 unfolding query_at
@@ -95,11 +106,22 @@ head_stands m p head q h =
     let len = bind_ok (number_at w16 m ttl.0.1 (length m)) _ (head, q) ttl.2 in
     let fixed : ℕ = name.0.1 in
     let a = number_from w16 m fixed rtype.0.0 rtype.0.1 fixed (fixed + 2) refl refl rtype.1 in
-    let b = number_from w16 m rtype.0.1 dns_class.0.0 dns_class.0.1 (fixed + 2) (fixed + 4) a.1 (omega arith) dns_class.1 in
+    let b = number_from w16 m rtype.0.1 dns_class.0.0 dns_class.0.1 (fixed + 2) (fixed + 4) a.1
+    (omega arith) dns_class.1 in
     let c = number_from w32 m dns_class.0.1 ttl.0.0 ttl.0.1 (fixed + 4) (fixed + 8) b.1 (omega arith) ttl.1 in
     let d = number_from w16 m ttl.0.1 len.0.0 len.0.1 (fixed + 8) (fixed + 10) c.1 (omega arith) len.1 in
     subst (λ (y : RecordHead × ℕ). HeadAt m p y.0 y.1) (is_ok_same _ (head, q) len.2)
-    (record { fixed = fixed; start = refl; name = name_at_sound m p (length m) name.0.0 fixed (omega arith) name.1; rtype = a.0; dns_class = b.0; ttl = c.0; rdlength = d.0; end = d.1 })
+    (record {
+      fixed = fixed;
+      start = refl;
+      name = name_at_sound m p (length m) name.0.0 fixed
+          (omega arith) name.1;
+      rtype = a.0;
+      dns_class = b.0;
+      ttl = c.0;
+      rdlength = d.0;
+      end = d.1;
+    })
 
 head_read : (m : List ℕ) (p : ℕ) (head : RecordHead) (q : ℕ) → HeadAt m p head q → head_at m p ≡ Ok (head, q)
 unfolding head_at
@@ -115,11 +137,13 @@ head_read m p head q s =
     ) refl
 
 -- the test of a record's place
-other_type : (b : Bool) (u : Unit {0}) → cond (b && true) (Err TsigNotLast) (let ok : Result (Unit {0}) DecodeError = Ok tt in ok) ≡ Ok u → b ≡ false
+other_type : (b : Bool) (u : Unit {0}) → cond (b && true) (Err TsigNotLast)
+    (let ok : Result (Unit {0}) DecodeError = Ok tt in ok) ≡ Ok u → b ≡ false
 other_type true u h = absurd cc
 other_type false u h = refl
 
-placed_ok : (is_last : Bool) (rtype : ℕ) (u : Unit {0}) → placed is_last rtype ≡ Ok u → (is_last ≡ true) ⊎ (rtype ≢ tsig_type)
+placed_ok : (is_last : Bool) (rtype : ℕ) (u : Unit {0}) → placed is_last rtype ≡ Ok u
+    → (is_last ≡ true) ⊎ (rtype ≢ tsig_type)
 placed_ok true rtype u h = inl refl
 placed_ok false rtype u h = inr (eqb-false rtype tsig_type (other_type (eqb rtype tsig_type) u h))
 
@@ -131,7 +155,8 @@ pub ok_placed : (is_last : Bool) (rtype : ℕ) → (is_last ≡ true) ⊎ (rtype
 ok_placed is_last rtype (inl is) = rw (is, and_false (eqb rtype tsig_type)) refl
 ok_placed is_last rtype (inr ne) = rw (ne_eqb rtype tsig_type ne) refl
 
-pub record_stands : (table : Table) (is_last : Bool) (m : List ℕ) (p : ℕ) (rr : ResourceRecord) (q : ℕ) → record_at table is_last m p ≡ Ok (rr, q)
+pub record_stands : (table : Table) (is_last : Bool) (m : List ℕ) (p : ℕ) (rr : ResourceRecord) (q : ℕ)
+    → record_at table is_last m p ≡ Ok (rr, q)
     → RecordAt table m p rr q × ((is_last ≡ true) ⊎ NotTsig rr)
 unfolding record_at
 record_stands table is_last m p rr q h =
@@ -153,12 +178,37 @@ record_stands table is_last m p rr q h =
       rdata = subst (λ k. RDataAt table m k head.0.0.data_length head.0.0.rtype rdata.0.0) s.end r.0;
       end = r.1 ∙ ap (λ (k : ℕ). k + head.0.0.data_length) s.end;
     } in
-    subst (λ (y : ResourceRecord × ℕ). RecordAt table m p y.0 y.1 × ((is_last ≡ true) ⊎ NotTsig y.0)) (is_ok_same _ (rr, q) rdata.2) (stands, placed_ok is_last head.0.0.rtype place.0 place.1)
+    subst (λ (y : ResourceRecord × ℕ). RecordAt table m p y.0 y.1 × ((is_last ≡ true) ⊎ NotTsig y.0))
+    (is_ok_same _ (rr, q) rdata.2) (stands, placed_ok is_last head.0.0.rtype place.0 place.1)
 
-pub record_read : (table : Table) (is_last : Bool) (m : List ℕ) (p : ℕ) (rr : ResourceRecord) (q : ℕ) → RecordAt table m p rr q → (is_last ≡ true) ⊎ NotTsig rr
+pub record_read : (table : Table) (is_last : Bool) (m : List ℕ) (p : ℕ) (rr : ResourceRecord) (q : ℕ)
+    → RecordAt table m p rr q → (is_last ≡ true) ⊎ NotTsig rr
     → record_at table is_last m p ≡ Ok (rr, q)
 unfolding record_at
 record_read table is_last m p rr q s place =
-    let head : RecordHead = record { start = rr.start; name = rr.name; rtype = rr.rtype; dns_class = rr.dns_class; ttl = rr.ttl; data_length = s.data_length } in
-    let stands : HeadAt m p head (s.fixed + 10) = record { fixed = s.fixed; start = s.start; name = s.name; rtype = s.rtype; dns_class = s.dns_class; ttl = s.ttl; rdlength = s.rdlength; end = refl } in
-    rw (head_read m p head (s.fixed + 10) stands, ok_placed is_last rr.rtype place, rdata_read table m (s.fixed + 10) s.data_length rr.rtype rr.rdata q (s.rdata, s.end)) refl
+    let head : RecordHead = record {
+      start = rr.start;
+      name = rr.name;
+      rtype = rr.rtype;
+      dns_class = rr.dns_class;
+      ttl =
+          rr.ttl;
+      data_length = s.data_length;
+    } in
+    let stands : HeadAt m p head (s.fixed + 10) = record {
+      fixed = s.fixed;
+      start = s.start;
+      name = s.name;
+      rtype =
+          s.rtype;
+      dns_class = s.dns_class;
+      ttl = s.ttl;
+      rdlength = s.rdlength;
+      end = refl;
+    } in
+    rw (
+      head_read m p head (s.fixed + 10) stands,
+      ok_placed is_last rr.rtype place,
+      rdata_read table m
+          (s.fixed + 10) s.data_length rr.rtype rr.rdata q (s.rdata, s.end),
+    ) refl

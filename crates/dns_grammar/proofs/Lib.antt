@@ -14,4 +14,6 @@ pub mod ExtentLaws
 pub mod StartLaws
 pub mod RecordBack
 pub mod RowReaderLaws
+pub mod MessageBack
+pub mod CheckLaws
 pub mod EqualValues

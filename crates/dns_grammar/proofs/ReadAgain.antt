@@ -1,5 +1,7 @@
 -- Values that stand somewhere can be written.
-use Rattle.std.proofs.Common.{◌≡◌, ◌≢◌, ℕ, zero, suc, ◌+◌, ◌-◌, ◌^◌, ◌≤◌, ◌<◌, true, false, eqb, ltb, List, [], ◌∷◌, ◌++◌, length, take, drop, get_or, Option, None, Some, Result, Ok, refl, sym, ap, subst, ◌∙◌, arith, length-append, eq-eqb}
+use Rattle.std.proofs.Common.{◌≡◌, ◌≢◌, ℕ, zero, suc, ◌+◌, ◌-◌, ◌^◌, ◌≤◌, ◌<◌, true, false, eqb, ltb, List, [], ◌∷◌}
+use Rattle.std.proofs.Common.{◌++◌, length, take, drop, get_or, Option, None, Some, Result, Ok, refl, sym, ap, subst}
+use Rattle.std.proofs.Common.{◌∙◌, arith, length-append}
 use Rattle.std.proofs.lemmas.List.{length-take, length-drop}
 use Rattle.std.proofs.lemmas.Bool.{lt-ltb, le-ltb, ne_eqb}
 use Rattle.std.specs.Int.{w16, w32, byte_len, from_be_bytes}
@@ -10,11 +12,15 @@ use Rattle.dns_wire.specs.Reading.{OctetsAt, NumberAt, TimeAt, CountedAt}
 use Rattle.dns_wire.specs.Octets.{AreOctets, six_octets}
 use Rattle.dns_names.specs.Names.{wire}
 use Rattle.dns_names.specs.NameLaws.{length_lt-wire}
-use Rattle.dns_grammar.specs.Fields.{Size, One, Two, Four, width, limit, Kind, Number, Time, Fixed, Counted, Strings, Rest, Lowered, Kept, Value, Num, Str, Strs, Named, Field, Table, StringsAt, ValueAt, FieldsAt, counted_octets, strings_octets, value_octets, fields_octets}
-use Rattle.dns_grammar.specs.RecordData.{tsig_type, one_type_data_at, rdata_at}
-use Rattle.dns_grammar.specs.Laws.{Holds, HoldsAll, rest_is_last, ReadIsReadAgain, WrittenRowIsRead, ReadRowIsReadAgain, WrittenDataIsRead, ReadDataIsReadAgain}
+use Rattle.dns_grammar.specs.Fields.{Size, One, Two, Four, width, limit, Kind, Number, Time, Fixed, Counted, Strings}
+use Rattle.dns_grammar.specs.Fields.{Rest, Lowered, Kept, Value, Num, Str, Strs, Named, Field, Table, row_of, StringsAt}
+use Rattle.dns_grammar.specs.Fields.{ValueAt, FieldsAt, counted_octets, strings_octets, value_octets, fields_octets}
+use Rattle.dns_grammar.specs.RecordData.{EmptyAt, one_type_data_at, rdata_at}
+use Rattle.dns_grammar.specs.Laws.{Holds, HoldsAll, rest_is_last, ReadIsReadAgain, WrittenRowIsRead, ReadRowIsReadAgain}
+use Rattle.dns_grammar.specs.Laws.{WrittenDataIsRead, ReadDataIsReadAgain}
 use Rattle.dns_names.proofs.PlaceLaws.{name_of_octets}
-use Rattle.dns_grammar.proofs.DataLaws.{row_stands, row_is_read, rdata_stands}
+use Rattle.dns_grammar.proofs.DataLaws.{row_stands, row_is_read, rdata_stands, rdata_read, is_empty_true}
+use Rattle.dns_grammar.proofs.DataLaws.{is_empty_false}
 use Rattle.dns_grammar.proofs.ReadBack.{with_count, ok_octets, chose_octets, joins, written_reads}
 
 -- ---- octets stay octets
@@ -44,16 +50,27 @@ number_below Four x h = omega (arith, at_index x 0 h, at_index x 1 h, at_index x
 
 octets_len : (n : ℕ) (m : List ℕ) (p e : ℕ) (x : List ℕ) (q : ℕ) → OctetsAt n m p e x q → length x ≡ n
 octets_len n m p e x q s =
-    ap (λ (l : List ℕ). length l) s.value ∙ omega (arith, length-take n (drop p m), length-drop p m, s.end, s.inside, s.within)
+    ap (λ (l : List ℕ). length l) s.value ∙ omega (
+      arith,
+      length-take n
+          (drop p m),
+      length-drop p m,
+      s.end,
+      s.inside,
+      s.within,
+    )
 
 octets_are : (n : ℕ) (m : List ℕ) (p e : ℕ) (x : List ℕ) (q : ℕ) → AreOctets m → OctetsAt n m p e x q → AreOctets x
 octets_are n m p e x q octets s = subst AreOctets (sym s.value) (taken n (drop p m) (dropped p m octets))
 
 number_fits : (size : Size) (m : List ℕ) (p e n q : ℕ) → AreOctets m → NumberAt (width size) m p e n q → n < limit size
-number_fits size m p e n q octets s = subst (λ k. k < limit size) (sym s.2) (number_below size s.0 (octets_are (byte_len (width size)) m p e s.0 q octets s.1))
+number_fits size m p e n q octets s = subst (λ k. k < limit size) (sym s.2)
+    (number_below size s.0 (octets_are (byte_len (width size)) m p e s.0 q octets s.1))
 
-counted_fits : (size : Size) (m : List ℕ) (p e : ℕ) (x : List ℕ) (q : ℕ) → AreOctets m → CountedAt (width size) m p e x q → length x < limit size
-counted_fits size m p e x q octets s = subst (λ k. k < limit size) (sym (octets_len s.0 m s.1 e x q s.3)) (number_fits size m p e s.0 s.1 octets s.2)
+counted_fits : (size : Size) (m : List ℕ) (p e : ℕ) (x : List ℕ) (q : ℕ) → AreOctets m
+    → CountedAt (width size) m p e x q → length x < limit size
+counted_fits size m p e x q octets s = subst (λ k. k < limit size) (sym (octets_len s.0 m s.1 e x q s.3))
+    (number_fits size m p e s.0 s.1 octets s.2)
 
 time_fits : (m : List ℕ) (p e n q : ℕ) → AreOctets m → TimeAt m p e n q → n < 2 ^ 48
 time_fits m p e n q octets s =
@@ -64,14 +81,22 @@ time_fits m p e n q octets s =
 
 -- ---- so it can be written
 
-counted_writes : (size : Size) (too_long : EmitError) (x : List ℕ) → length x < limit size → counted_octets size too_long x ≡ Ok (with_count size x)
+counted_writes : (size : Size) (too_long : EmitError) (x : List ℕ) → length x < limit size
+    → counted_octets size too_long x ≡ Ok (with_count size x)
 counted_writes size too_long x lt = let test : ltb (length x) (limit size) ≡ true = lt-ltb _ _ lt in rw test refl
 
-strings_write : (m : List ℕ) (p e : ℕ) (strings : List (List ℕ)) (q : ℕ) → AreOctets m → StringsAt m p e strings q → (x : List ℕ) × (strings_octets strings ≡ Ok x)
+strings_write : (m : List ℕ) (p e : ℕ) (strings : List (List ℕ)) (q : ℕ) → AreOctets m → StringsAt m p e strings q
+    → (x : List ℕ) × (strings_octets strings ≡ Ok x)
 strings_write m p e [] q octets s = ([], refl)
 strings_write m p e (x ∷ xs) q octets s =
-    let rest = strings_write m s.1.0 e xs q octets s.1.2 in
-    (with_count One x ++ rest.0, rw (counted_writes One StringTooLong x (counted_fits One m p e x s.1.0 octets s.1.1), rest.1) refl)
+    let rest = strings_write m s.1.0 e xs q octets s.1.2 in (
+      with_count One x ++ rest.0,
+      rw (
+        counted_writes One StringTooLong x
+            (counted_fits One m p e x s.1.0 octets s.1.1),
+        rest.1,
+      ) refl,
+    )
 
 -- what is known of a value that stands somewhere
 record CanWrite (kind : Kind) (v : Value) : Type 0 where
@@ -79,16 +104,39 @@ record CanWrite (kind : Kind) (v : Value) : Type 0 where
   pub octets : List ℕ
   pub written : value_octets false kind v ≡ Ok octets
 
-can_write : (kind : Kind) (m : List ℕ) (p e : ℕ) (v : Value) (q : ℕ) → AreOctets m → ValueAt kind m p e v q → CanWrite kind v
-can_write (Number size) m p e (Num n) q octets s = record { holds = number_fits size m p e n q octets s; octets = _; written = refl }
+can_write : (kind : Kind) (m : List ℕ) (p e : ℕ) (v : Value) (q : ℕ) → AreOctets m → ValueAt kind m p e v q
+    → CanWrite kind v
+can_write (Number size) m p e (Num n) q octets s = record {
+  holds = number_fits size m p e n q octets s;
+  octets = _;
+  written = refl;
+}
 can_write Time m p e (Num n) q octets s =
-    let test : ltb n (2 ^ 48) ≡ true = lt-ltb _ _ (time_fits m p e n q octets s) in record { holds = tt; octets = six_octets n; written = rw test refl }
+    let test : ltb n (2 ^ 48) ≡ true = lt-ltb _ _ (time_fits m p e n q octets s) in
+    record { holds = tt; octets = six_octets n; written = rw test refl }
 can_write (Fixed n) m p e (Str x) q octets s = record { holds = octets_len n m p e x q s; octets = _; written = refl }
-can_write (Counted size too_long) m p e (Str x) q octets s = record { holds = tt; octets = with_count size x; written = counted_writes size too_long x (counted_fits size m p e x q octets s) }
-can_write Strings m p e (Strs strings) q octets s = let w = strings_write m p e strings q octets s in record { holds = tt; octets = w.0; written = w.1 }
+can_write (Counted size too_long) m p e (Str x) q octets s =
+    record {
+      holds = tt;
+      octets = with_count size x;
+      written = counted_writes size too_long x
+          (counted_fits size m p e x q octets s);
+    }
+can_write Strings m p e (Strs strings) q octets s = let w = strings_write m p e strings q octets s in
+    record { holds = tt; octets = w.0; written = w.1 }
 can_write Rest m p e (Str x) q octets s = record { holds = tt; octets = x; written = refl }
-can_write Lowered m p e (Named n) q octets s = record { holds = name_of_octets m p e n q octets s; octets = _; written = refl }
-can_write Kept m p e (Named n) q octets s = record { holds = name_of_octets m p e n q octets s; octets = _; written = refl }
+can_write Lowered m p e (Named n) q octets s = record {
+  holds = name_of_octets m p e n q octets s;
+  octets = _;
+  written =
+      refl;
+}
+can_write Kept m p e (Named n) q octets s = record {
+  holds = name_of_octets m p e n q octets s;
+  octets = _;
+  written =
+      refl;
+}
 can_write _ m p e _ q octets s = absurd s
 
 record CanWriteAll (fields : List Field) (values : List Value) : Type 0 where
@@ -96,12 +144,18 @@ record CanWriteAll (fields : List Field) (values : List Value) : Type 0 where
   pub octets : List ℕ
   pub written : fields_octets false fields values ≡ Ok octets
 
-can_write_all : (fields : List Field) (m : List ℕ) (p e : ℕ) (values : List Value) (q : ℕ) → AreOctets m → FieldsAt fields m p e values q → CanWriteAll fields values
+can_write_all : (fields : List Field) (m : List ℕ) (p e : ℕ) (values : List Value) (q : ℕ) → AreOctets m
+    → FieldsAt fields m p e values q → CanWriteAll fields values
 can_write_all [] m p e [] q octets s = record { holds = tt; octets = []; written = refl }
 can_write_all (f ∷ fs) m p e (v ∷ vs) q octets s =
     let first = can_write f.kind m p e v s.0 octets s.1 in
     let behind = can_write_all fs m s.0 e vs q octets s.3 in
-    record { holds = (first.holds, s.2, behind.holds); octets = first.octets ++ behind.octets; written = rw (first.written, behind.written) refl }
+    record {
+      holds = (first.holds, s.2, behind.holds);
+      octets = first.octets
+          ++ behind.octets;
+      written = rw (first.written, behind.written) refl;
+    }
 can_write_all [] m p e (v ∷ vs) q octets s = absurd s
 can_write_all (f ∷ fs) m p e [] q octets s = absurd s
 
@@ -118,14 +172,16 @@ count_some Two z = omega arith
 count_some Four z = omega arith
 
 -- what is written of a value that takes octets is not empty
-value_some : (kind : Kind) (m : List ℕ) (p e : ℕ) (v : Value) (q : ℕ) (x : List ℕ) → e ≤ length m → ValueAt kind m p e v q → value_octets false kind v ≡ Ok x → length x ≡ 0 → q ≤ p
+value_some : (kind : Kind) (m : List ℕ) (p e : ℕ) (v : Value) (q : ℕ) (x : List ℕ) → e ≤ length m
+    → ValueAt kind m p e v q → value_octets false kind v ≡ Ok x → length x ≡ 0 → q ≤ p
 value_some (Number One) m p e (Num n) q x within s is none = absurd (omega (arith, ap length (ok_octets _ x is), none))
 value_some (Number Two) m p e (Num n) q x within s is none = absurd (omega (arith, ap length (ok_octets _ x is), none))
 value_some (Number Four) m p e (Num n) q x within s is none = absurd (omega (arith, ap length (ok_octets _ x is), none))
 value_some Time m p e (Num n) q x within s is none =
     let c = chose_octets (ltb n (2 ^ 48)) (six_octets n) x TimeTooLarge is in
     absurd (omega (arith, ap length c.1, none))
-value_some (Fixed n) m p e (Str z) q x within s is none = omega (arith, ap length (ok_octets z x is), none, octets_len n m p e z q s, s.end)
+value_some (Fixed n) m p e (Str z) q x within s is none = omega
+    (arith, ap length (ok_octets z x is), none, octets_len n m p e z q s, s.end)
 value_some (Counted size too_long) m p e (Str z) q x within s is none =
     let c = chose_octets (ltb (length z) (limit size)) (with_count size z) x too_long is in
     absurd (omega (arith, ap length c.1, none, count_some size z))
@@ -136,12 +192,25 @@ value_some Strings m p e (Strs (z ∷ zs)) q x within s is none =
     absurd (omega (arith, ap length c.1, ap length j.whole, length-append j.first j.second, none, count_some One z))
 value_some Rest m p e (Str z) q x within s is none =
     let long : length z ≡ length (take (e - p) (drop p m)) = ap length s.0 in
-    omega (arith, ap length (ok_octets z x is), none, long, length-take (e - p) (drop p m), length-drop p m, s.1, within)
-value_some Lowered m p e (Named n) q x within s is none = absurd (omega (arith, ap length (ok_octets (wire n) x is), none, length_lt-wire n))
-value_some Kept m p e (Named n) q x within s is none = absurd (omega (arith, ap length (ok_octets (wire n) x is), none, length_lt-wire n))
+    omega (
+      arith,
+      ap length (ok_octets z x is),
+      none,
+      long,
+      length-take (e - p)
+          (drop p m),
+      length-drop p m,
+      s.1,
+      within,
+    )
+value_some Lowered m p e (Named n) q x within s is none = absurd
+    (omega (arith, ap length (ok_octets (wire n) x is), none, length_lt-wire n))
+value_some Kept m p e (Named n) q x within s is none = absurd
+    (omega (arith, ap length (ok_octets (wire n) x is), none, length_lt-wire n))
 value_some _ m p e _ q x within s is none = absurd s
 
-fields_some : (fields : List Field) (m : List ℕ) (p e : ℕ) (values : List Value) (q : ℕ) (x : List ℕ) → e ≤ length m → FieldsAt fields m p e values q → fields_octets false fields values ≡ Ok x → length x ≡ 0 → q ≤ p
+fields_some : (fields : List Field) (m : List ℕ) (p e : ℕ) (values : List Value) (q : ℕ) (x : List ℕ) → e ≤ length m
+    → FieldsAt fields m p e values q → fields_octets false fields values ≡ Ok x → length x ≡ 0 → q ≤ p
 fields_some [] m p e [] q x within s is none = omega (arith, s)
 fields_some (f ∷ fs) m p e (v ∷ vs) q x within s is none =
     let j = joins (value_octets false f.kind v) (fields_octets false fs vs) x is in
@@ -158,7 +227,8 @@ positive n ne = omega arith
 pub written_row : (fields : List Field) → rest_is_last fields ≡ true → WrittenRowIsRead fields
 unfolding one_type_data_at
 written_row fields last values x front back holds lt is =
-    let fits : ltb (length (front ++ (x ++ back))) (length front + length x) ≡ false = le-ltb _ _ (omega (arith, length-append front (x ++ back), length-append x back)) in
+    let fits : ltb (length (front ++ (x ++ back))) (length front + length x)
+    ≡ false = le-ltb _ _ (omega (arith, length-append front (x ++ back), length-append x back)) in
     let some : eqb (length x) 0 ≡ false = ne_eqb (length x) 0 (omega (arith, lt)) in
     rw (fits, some, written_reads fields values x front back last holds is) refl
 
@@ -167,23 +237,35 @@ read_row_again fields last m p len values q octets read =
     let s = (row_is_read fields m p len values q).0 read in
     let c = can_write_all fields m p (p + len) values (p + len) octets s.0.filled in
     let lt : 0 < len = s.0.nonempty in
-    let some : 0 < length c.octets = positive (length c.octets) (λ none. absurd (omega (arith, lt, fields_some fields m p (p + len) values (p + len) c.octets s.0.within s.0.filled c.written none))) in
+    let some : 0 < length c.octets = positive (length c.octets)
+    (λ none. absurd (omega (
+      arith,
+      lt,
+      fields_some fields m p (p + len) values
+          (p + len) c.octets s.0.within s.0.filled c.written none,
+    ))) in
     (c.octets, c.written, λ front back. written_row fields last values c.octets front back c.holds some c.written)
 
 pub written_data : (table : Table) → WrittenDataIsRead table
 unfolding rdata_at
 written_data table rtype None x front back last holds is =
     let none : x ≡ [] = sym (ok_octets [] x is) in
-    let fits : ltb (length (front ++ (x ++ back))) (length front + length x) ≡ false = le-ltb _ _ (omega (arith, length-append front (x ++ back), length-append x back)) in
-    let zero : eqb (length x) 0 ≡ true = eq-eqb (length x) 0 (ap length none) in
-    let other : eqb rtype tsig_type ≡ false = ne_eqb rtype tsig_type holds in
+    let empty : EmptyAt (front ++ (x ++ back)) (length front)
+    (length x) rtype = record {
+      empty = ap length none;
+      not_tsig = holds;
+      within = omega
+          (arith, length-append front (x ++ back));
+    } in
     let end : length front ≡ length front + length x = omega (arith, ap length none) in
-    rw (fits, zero, other) (ap (λ k. let ok : Result (Option (List Value) × ℕ) DecodeError = Ok (None, k) in ok) end)
+    rw (is_empty_true _ _ _ rtype empty) (ap (λ k. let ok : Result (Option (List Value) × ℕ) DecodeError = Ok
+    (None, k) in ok) end)
 written_data table rtype (Some values) x front back last holds is =
-    let fits : ltb (length (front ++ (x ++ back))) (length front + length x) ≡ false = le-ltb _ _ (omega (arith, length-append front (x ++ back), length-append x back)) in
-    let lt : 0 < length x = holds.1 in
-    let some : eqb (length x) 0 ≡ false = ne_eqb (length x) 0 (omega (arith, lt)) in
-    rw (fits, some, written_reads (table rtype) values x front back last holds.0 is) refl
+    rw (
+      is_empty_false _ _ _ rtype holds.1,
+      written_row
+          (row_of table rtype) last values x front back holds.0 holds.1 is,
+    ) refl
 
 pub read_data_again : (table : Table) → ReadDataIsReadAgain table
 read_data_again table m p len rtype None q last octets read =
@@ -191,7 +273,10 @@ read_data_again table m p len rtype None q last octets read =
     ([], refl, λ front back. written_data table rtype None [] front back last s.0.not_tsig refl)
 read_data_again table m p len rtype (Some values) q last octets read =
     let s = rdata_stands table m p len rtype (Some values) q read in
-    let c = can_write_all (table rtype) m p (p + len) values (p + len) octets s.0.filled in
-    let lt : 0 < len = s.0.nonempty in
-    let some : 0 < length c.octets = positive (length c.octets) (λ none. absurd (omega (arith, lt, fields_some (table rtype) m p (p + len) values (p + len) c.octets s.0.within s.0.filled c.written none))) in
-    (c.octets, c.written, λ front back. written_data table rtype (Some values) c.octets front back last (c.holds, some) c.written)
+    let row = read_row_again (row_of table rtype) last m p len values q octets
+    ((row_is_read (row_of table rtype) m p len values q).1 s) in (
+      row.0,
+      row.1,
+      λ front back. rdata_read table _ _ _ rtype (Some values) _
+          ((row_is_read (row_of table rtype) _ _ _ values _).0 (row.2 front back)),
+    )

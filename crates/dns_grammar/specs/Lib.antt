@@ -2,7 +2,9 @@ pub mod Fields
 pub mod RecordData
 pub mod Tables
 pub mod Messages
+pub mod MessageWriting
 pub mod Extents
 pub mod FieldsOut
 pub mod Laws
 pub mod RowReaders
+pub mod FieldForms

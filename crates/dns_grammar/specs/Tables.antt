@@ -1,8 +1,13 @@
 -- The tables that say which fields each type of record has.
-use Rattle.std.specs.Prelude.{◌≡◌, List, [], ◌∷◌, nat_eq, if◌then◌else◌}
+use Rattle.std.specs.Prelude.{◌≡◌, ℕ, List, [], ◌∷◌}
 use Rattle.dns_wire.specs.declared.error.EmitError.TheVariants.{MacTooLong, OtherTooLong}
-use Rattle.dns_grammar.specs.Fields.{Two, Number, Time, Fixed, Counted, Rest, Kept, Field, Table, any}
+use Rattle.dns_types.specs.TypeNumbers as types
+use Rattle.dns_grammar.specs.Fields.{Two, Number, Time, Fixed, Counted, Kept, Field, Table, any, row_of}
 use Rattle.dns_grammar.specs.RecordData.{tsig_type}
+
+-- the type of an address (RFC 1035 3.2.2)
+abbrev pub a_type : ℕ
+a_type = types.A
 
 -- an address (RFC 1035 3.4.1)
 abbrev pub a_row : List Field
@@ -20,14 +25,10 @@ tsig_row =
     ∷ any (Counted Two OtherTooLong)
     ∷ []
 
--- octets that nothing is known of (RFC 3597)
-abbrev pub unknown_row : List Field
-unknown_row = any Rest ∷ []
-
 -- addresses and transaction signatures alone are taken apart
 abbrev pub short_table : Table
-short_table rtype = if nat_eq rtype 1 then a_row else if nat_eq rtype tsig_type then tsig_row else unknown_row
+short_table = (a_type, a_row) ∷ (tsig_type, tsig_row) ∷ []
 
 -- the table knows transaction signatures
 pub record IsTable (table : Table) : Type 0 where
-  pub tsig : table tsig_type ≡ tsig_row
+  pub tsig : row_of table tsig_type ≡ tsig_row

@@ -1,10 +1,12 @@
 //! The one writer of record data: fields, one behind the other.
 ghost use Rattle.std.specs.Prelude.{◌≡◌, List};
+ghost use Rattle.dns_wire.specs.declared.error.EmitError.TheVariants.{StringTooLong};
 ghost use Rattle.dns_wire.specs.Writing.{Writes};
+ghost use Rattle.dns_grammar.specs.Fields.{One, counted_octets, strings_octets};
 ghost use Rattle.dns_grammar.specs.FieldsOut.{field_out_octets, fields_out_octets, Grows};
 
 use dns_names::Name;
-use dns_wire::{BinEncoder, EmitError, time_octets};
+use dns_wire::{BinEncoder, EmitError, Octets, time_octets};
 
 /// A field of record data that is to be written (RFC 1035 3.3).
 #[derive(Clone, Copy, Debug)]
@@ -23,6 +25,9 @@ pub enum FieldOut<'a> {
     Counted8(&'a [u8], EmitError),
     /// Octets behind their count in two octets, and the cause where there are more than 65,535.
     Counted16(&'a [u8], EmitError),
+    /// Strings, each behind its count in one octet (RFC 1035 3.3.14); `StringTooLong` where one has more than 255
+    /// octets.
+    Strings(&'a [Octets]),
     /// A name that canonical form lowers (RFC 4034 6.2).
     Lowered(&'a Name),
     /// A name that canonical form keeps.
@@ -52,6 +57,7 @@ impl FieldOut<'_> {
                 Ok(count) => encoder.emit_both(&count.to_be_bytes(), octets),
                 Err(_) => Err(too_long),
             },
+            FieldOut::Strings(strings) => emit_strings(encoder, strings),
             FieldOut::Lowered(name) => {
                 if encoder.is_canonical_form() {
                     encoder.emit_vec(name.to_lowercase().as_wire())
@@ -64,8 +70,40 @@ impl FieldOut<'_> {
     }
 }
 
+/// Writes a string behind its count in one octet.
+fn emit_string(encoder: &mut BinEncoder, string: &Octets) -> Result<(), EmitError>
+    ensures { Writes result encoder.old encoder.new (counted_octets One StringTooLong string.now) }
+{
+    match u8::try_from(string.len()) {
+        Ok(count) => encoder.emit_both(&count.to_be_bytes(), string.as_slice()),
+        Err(_) => Err(EmitError::StringTooLong),
+    }
+}
+
+/// Writes the strings up to the first that can't be written.
+fn append_strings(encoder: &mut BinEncoder, strings: &[Octets]) -> Result<(), EmitError>
+    ensures { Grows result encoder.old encoder.new (strings_octets strings.now) }
+{
+    for string in strings {
+        emit_string(encoder, string)?;
+    }
+    Ok(())
+}
+
+/// Writes the strings, or nothing where one of them can't be written.
+#[tactic(auto, using(crate::proofs::FieldOutLaws::cut_back))]
+fn emit_strings(encoder: &mut BinEncoder, strings: &[Octets]) -> Result<(), EmitError>
+    ensures { Writes result encoder.old encoder.new (strings_octets strings.now) }
+{
+    let start = encoder.len();
+    let result = append_strings(encoder, strings);
+    if result.is_err() {
+        encoder.truncate(start);
+    }
+    result
+}
+
 /// Writes the fields up to the first that can't be written.
-#[tactic(auto, using(crate::proofs::FieldOutLaws::put_none, crate::proofs::FieldOutLaws::put_more, crate::proofs::FieldOutLaws::put_fails, crate::proofs::FieldOutLaws::put_all))]
 fn append_fields(encoder: &mut BinEncoder, fields: &[FieldOut<'_>]) -> Result<(), EmitError>
     ensures { Grows result encoder.old encoder.new (fields_out_octets encoder.old.canonical_form fields.now) }
 {
@@ -77,8 +115,9 @@ fn append_fields(encoder: &mut BinEncoder, fields: &[FieldOut<'_>]) -> Result<()
 
 /// Writes the fields, one behind the other, or nothing where one of them can't be written.
 ///
-/// The first field that can't be written is the cause: a time of 2^48 or more is `TimeTooLarge`, and counted octets name their own.
-/// Names heed the encoder's canonical form and not its name encoding.
+/// The first field that can't be written is the cause: a time of 2^48 or more is `TimeTooLarge`, a string above 255
+/// octets is `StringTooLong`, and counted octets name their own. Names heed the encoder's canonical form and not its
+/// name encoding.
 #[tactic(auto, using(crate::proofs::FieldOutLaws::cut_back))]
 pub fn emit_fields(encoder: &mut BinEncoder, fields: &[FieldOut<'_>]) -> Result<(), EmitError>
     ensures { Writes result encoder.old encoder.new (fields_out_octets encoder.old.canonical_form fields.now) }

@@ -1,9 +1,14 @@
 //! Laws of the definitions, each proved for every string of octets. Nothing calls these functions.
 ghost use Rattle.std.specs.Prelude.{IsTrue, List, ℕ};
-ghost use Rattle.dns_grammar.specs.Fields.{Field, Table};
+ghost use Rattle.dns_grammar.specs.Fields.{Field, Table, row_of};
 ghost use Rattle.dns_grammar.specs.Tables.{IsTable, short_table};
 ghost use Rattle.dns_grammar.specs.Extents.{SignatureStartsInside, OneStart};
-ghost use Rattle.dns_grammar.specs.Laws.{RowIsReadWhereItStands, DataIsReadWhereItStands, OneData, MessageIsReadWhereItStands, OneMessage, OutlineIsOfMessage, SignatureIsWhole, rest_is_last, WrittenIsRead, WrittenRowIsRead, WrittenDataIsRead, WrittenRecordIsRead, ReadIsReadAgain, ReadRowIsReadAgain, ReadDataIsReadAgain, CanonicalIsPlain, AgreeingHaveOneForm};
+ghost use Rattle.dns_grammar.specs.Laws.{RowIsReadWhereItStands, DataIsReadWhereItStands, OneData, OneMessage};
+ghost use Rattle.dns_grammar.specs.Laws.{MessageIsReadWhereItStands, SignatureIsWhole, rest_is_last};
+ghost use Rattle.dns_grammar.specs.Laws.{WrittenIsRead, WrittenRowIsRead, WrittenDataIsRead, WrittenRecordIsRead};
+ghost use Rattle.dns_grammar.specs.Laws.{WrittenMessageIsRead, ReadIsReadAgain, ReadRowIsReadAgain};
+ghost use Rattle.dns_grammar.specs.Laws.{ReadDataIsReadAgain};
+ghost use Rattle.dns_grammar.specs.Laws.{CanonicalIsPlain, AgreeingHaveOneForm};
 
 /// Record data are read exactly where they stand, and at most one stand at a place.
 pub fn data_are_read_where_they_stand()
@@ -18,22 +23,18 @@ pub fn messages_are_read_where_they_stand()
     ensures one { (table : Table) → OneMessage table }
 {}
 
-/// The outline of a message, which is read with no list, is that of its parts.
-pub fn outline_is_of_message()
-    ensures { (table : Table) → OutlineIsOfMessage table }
-{}
-
 /// Under a table that knows transaction signatures, the data of one as the last additional have its seven values.
 pub fn signature_is_whole()
     ensures { (table : Table) → IsTable table → SignatureIsWhole table }
 {}
 
-/// What is written of values, of record data and of a record is read as the same.
+/// What is written of values, of record data, of a record and of a message is read as the same.
 pub fn written_is_read()
     ensures fields { (fields : List Field) → IsTrue (rest_is_last fields) → WrittenIsRead fields }
     ensures row { (fields : List Field) → IsTrue (rest_is_last fields) → WrittenRowIsRead fields }
     ensures data { (table : Table) → WrittenDataIsRead table }
     ensures record { (table : Table) → WrittenRecordIsRead table }
+    ensures message { (table : Table) → WrittenMessageIsRead table }
 {}
 
 /// Values and record data that were read can be written, and are then read again.
@@ -49,8 +50,8 @@ pub fn canonical_is_plain()
     ensures agree { (table : Table) → AgreeingHaveOneForm table }
 {}
 
-/// Where the signature of a message starts: inside, at a place that the octets before it tell alone, whatever the table and wherever
-/// names point.
+/// Where the signature of a message starts: inside, at a place that the octets before it tell alone, whatever the table
+/// and wherever names point.
 pub fn one_start()
     ensures inside { (table : Table) → SignatureStartsInside table }
     ensures one { (table : Table) → OneStart table }
@@ -59,5 +60,5 @@ pub fn one_start()
 /// The short table knows transaction signatures, and no field before the last takes all that is left.
 pub fn short_table_is_table()
     ensures tsig { IsTable short_table }
-    ensures rest { (rtype : ℕ) → IsTrue (rest_is_last (short_table rtype)) }
+    ensures rest { (rtype : ℕ) → IsTrue (rest_is_last (row_of short_table rtype)) }
 {}

@@ -1,9 +1,9 @@
 pub mod Chains
-pub mod Pushed
+pub mod NamePush
 pub mod Steps
 pub mod PlaceLaws
 pub mod Written
 pub mod FromRight
 pub mod AboveBelow
-pub mod Spelled
-pub mod TextBack
+pub mod TextSteps
+pub mod TextLaws

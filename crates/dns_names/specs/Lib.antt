@@ -4,3 +4,5 @@ pub mod NameWriting
 pub mod Places
 pub mod NameText
 pub mod Jumps
+pub mod LabelReading
+pub mod Skipping

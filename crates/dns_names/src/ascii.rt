@@ -1,9 +1,11 @@
 //! Names read from text.
-ghost use Rattle.std.specs.Prelude.{◌≡◌, ◌+◌, ◌<◌, ◌≤◌, ◌++◌, ◌∷◌, [], length, IfOk, MatchResult, Ok, Err};
-ghost use Rattle.dns_names.specs.Names.{IsName};
+ghost use Rattle.std.specs.Prelude.{◌≡◌, ◌≤◌, ℕ, List, [], length, IfOk, MatchResult, Ok, Err};
 ghost use Rattle.dns_wire.specs.Reading.{Gives};
-ghost use Rattle.dns_names.specs.NameText.{first_octet, escaped, with_label, labels_of, at_end, name_of};
+ghost use Rattle.dns_names.specs.Names.{IsName};
+ghost use Rattle.dns_names.specs.NameText.{first_octet, escaped, add_octet, name_at_end, completed_name};
+ghost use Rattle.dns_names.specs.NameText.{name_from_text, Spells};
 
+use crate::label::MAX_LABEL;
 use crate::name::Name;
 use dns_wire::NameError;
 use std::marker::Model;
@@ -11,7 +13,7 @@ use std::marker::Model;
 /// The octets of a label so far.
 #[derive(Drop)]
 struct LabelBuf {
-    octets: [u8; 63],
+    octets: [u8; MAX_LABEL],
     len: usize,
 }
 
@@ -30,17 +32,26 @@ impl LabelBuf {
         ensures { result ≡ [] }
     {
         LabelBuf {
-            octets: [0; 63],
+            octets: [0; MAX_LABEL],
             len: 0,
         }
     }
 
-    fn push(&mut self, octet: u8)
-        requires { length self.old < 63 }
-        ensures { self.new ≡ self.old ++ octet ∷ [] }
+    /// Adds an octet at the end.
+    ///
+    /// # Errors
+    ///
+    /// `LabelTooLong` where there are 63 octets.
+    fn add_octet(&mut self, octet: u8) -> Result<(), NameError>
+        ensures { MatchResult result (λ _. add_octet self.old octet ≡ Ok self.new) (λ e. add_octet self.old octet
+            ≡ Err e) }
     {
+        if self.len == MAX_LABEL {
+            return Err(NameError::LabelTooLong);
+        }
         self.octets[self.len] = octet;
         self.len += 1;
+        Ok(())
     }
 
     fn as_slice(&self) -> &[u8]
@@ -51,12 +62,12 @@ impl LabelBuf {
     }
 }
 
-/// The octet behind a backslash, and the text behind it.
-fn escaped_octet(text: &[u8]) -> Result<(u8, &[u8]), NameError>
-    ensures { Gives (λ x. (x.0, x.1.now)) result (escaped text.now) }
+/// The octet behind a backslash, and how many characters spell it there.
+fn escaped_octet(text: &[u8]) -> Result<(u8, usize), NameError>
+    ensures { Gives (λ x. (x.0, x.1)) result (escaped text.now) }
 {
     match text {
-        [a, b, c, rest @ ..] if a.is_ascii_digit() => {
+        [a, b, c, ..] if a.is_ascii_digit() => {
             if !b.is_ascii_digit() || !c.is_ascii_digit() {
                 return Err(NameError::BadEscape);
             }
@@ -66,94 +77,88 @@ fn escaped_octet(text: &[u8]) -> Result<(u8, &[u8]), NameError>
             if value > 255 {
                 return Err(NameError::BadEscape);
             }
-            Ok((value as u8, rest))
+            Ok((value as u8, 3))
         }
-        [a, rest @ ..] if !a.is_ascii_digit() && a.is_ascii_graphic() => Ok((*a, rest)),
+        [a, ..] if !a.is_ascii_digit() && a.is_ascii_graphic() => Ok((*a, 1)),
         _ => Err(NameError::BadEscape),
     }
 }
 
-/// The octet that a text begins with, and the text behind it.
-fn first_octet(first: u8, rest: &[u8]) -> Result<(u8, &[u8]), NameError>
-    ensures { Gives (λ x. (x.0, x.1.now)) result (first_octet first rest.now) }
+/// The octet that a text begins with, and how many characters behind the first spell it too.
+fn first_octet(first: u8, rest: &[u8]) -> Result<(u8, usize), NameError>
+    ensures { Gives (λ x. (x.0, x.1)) result (first_octet first rest.now) }
 {
     match first {
         b'\\' => escaped_octet(rest),
-        33..=126 => Ok((first, rest)),
+        33..=126 => Ok((first, 0)),
         _ => Err(NameError::BadCharacter),
     }
 }
 
 /// The name that a text other than one dot spells.
 fn spelled_name(text: &[u8]) -> Result<Name, NameError>
-    ensures { result ≡ labels_of (length text.now) [] [] text.now }
+    ensures { result ≡ completed_name 0 [] [] text.now }
 {
     let mut name = Name::root();
     let mut label = LabelBuf::new();
     let mut rest = text;
     'characters: while let [first, after @ ..] = rest {
         if *first == b'.' {
-            name.push_label(label.as_slice())?;
+            name.add_label(label.as_slice())?;
             label = LabelBuf::new();
             rest = after;
         } else {
             let (octet, behind) = first_octet(*first, after)?;
-            if label.as_slice().len() == 63 {
-                return Err(NameError::LabelTooLong);
-            }
-            label.push(octet);
-            rest = behind;
+            label.add_octet(octet)?;
+            rest = &after[behind..];
         }
     }
     name.finished(label.as_slice())
 }
 
 impl Name {
-    /// Puts a label at the end, where it is one and there is room.
-    fn push_label(&mut self, label: &[u8]) -> Result<(), NameError>
-        requires { length label.now ≤ 63 }
-        ensures { MatchResult result (λ _. with_label self.old label.now ≡ Ok self.new) (λ e. with_label self.old label.now ≡ Err e) }
-    {
-        if label.is_empty() {
-            return Err(NameError::EmptyLabel);
-        }
-        if self.len() + label.len() + 1 > 255 {
-            return Err(NameError::NameTooLong);
-        }
-        self.push(label);
-        Ok(())
-    }
-
     /// The name at the end of the text, where a dot may have stood last.
     fn finished(mut self, label: &[u8]) -> Result<Name, NameError>
         requires { length label.now ≤ 63 }
-        ensures { result ≡ at_end self label.now }
+        ensures { result ≡ name_at_end self label.now }
     {
         if label.is_empty() && !self.is_root() {
             return Ok(self);
         }
-        self.push_label(label)?;
+        self.add_label(label)?;
         Ok(self)
     }
 
-    /// The name that the text spells, fully qualified with or without a dot at its end (RFC 1035 5.1). A backslash and three decimal
-    /// digits are an octet, a backslash and another visible character that character. One dot is the root.
+    /// The name that the text spells, fully qualified with or without a dot at its end (RFC 1035 5.1). A backslash and
+    /// three decimal digits are an octet, a backslash and another visible character that character. One dot is the
+    /// root.
     ///
     /// # Errors
     ///
-    /// The first fault from the left: `EmptyLabel` at two dots, at a dot at the front and for no text, `LabelTooLong` at the 64th
-    /// octet of a label, `NameTooLong` at the end of a label that brings the wire form above 255 octets, `BadEscape` at a backslash
-    /// before anything else, `BadCharacter` at a character that is not visible ASCII.
+    /// The first fault from the left: `EmptyLabel` at two dots, at a dot at the front and for no text, `LabelTooLong`
+    /// at the 64th octet of a label, `NameTooLong` at the end of a label that brings the wire form above 255 octets,
+    /// `BadEscape` at a backslash before anything else, `BadCharacter` at a character that is not visible ASCII.
     pub fn from_ascii(text: &str) -> Result<Name, NameError>
-        ensures exact { result ≡ name_of text.now }
-        ensures name { IfOk result IsName }
+        ensures found { IfOk result (λ n. Spells text.now n × IsName n) }
+        ensures only { (n : List (List ℕ)) → Spells text.now n → IsName n → result ≡ Ok n }
+        ensures exact { result ≡ name_from_text text.now }
     {
-        if text == "." {
+        Name::from_ascii_octets(text.as_bytes())
+    }
+
+    /// The name that octets spell, as `from_ascii` reads a text.
+    ///
+    /// # Errors
+    ///
+    /// Those of `from_ascii`; no octet above 126 is a visible character.
+    pub fn from_ascii_octets(text: &[u8]) -> Result<Name, NameError>
+        ensures found { IfOk result (λ n. Spells text.now n × IsName n) }
+        ensures only { (n : List (List ℕ)) → Spells text.now n → IsName n → result ≡ Ok n }
+        ensures exact { result ≡ name_from_text text.now }
+    {
+        if text == b".".as_slice() {
             return Ok(Name::root());
         }
-        let name = spelled_name(text.as_bytes())?;
-        // The length shows the proof that the value is a name.
-        let _ = name.len();
-        Ok(name)
+        spelled_name(text)
     }
 }

@@ -43,16 +43,13 @@ impl Name {
     ///
     /// `NameTooLong` where the wire form would pass 255 octets.
     pub fn prepend(&self, label: &Label) -> Result<Name, NameError>
-        ensures { MatchResult result (λ n. (n ≡ label.now ∷ self.now) × IsName n) (λ e. (e ≡ NameError.NameTooLong) × (255 < length (wire (label.now ∷ self.now)))) }
+        ensures { MatchResult result (λ n. (n ≡ label.now ∷ self.now) × IsName n)
+            (λ e. (e ≡ NameError.NameTooLong) × (255 < length (wire (label.now ∷ self.now)))) }
     {
-        let first = label.as_slice();
-        if self.len() + first.len() + 1 > 255 {
-            return Err(NameError::NameTooLong);
-        }
         let mut name = Name::root();
-        name.push(first);
+        name.add_label(label.as_slice())?;
         'labels: for octets in self.iter() {
-            name.push(octets);
+            name.add_label(octets)?;
         }
         Ok(name)
     }

@@ -1,9 +1,46 @@
-//! Names whose chains of pointers are gone through once.
-ghost use Rattle.std.specs.Prelude.{◌≡◌, ℕ, ◌+◌, ◌^◌, ◌≤◌, ◌<◌, List, length};
-ghost use Rattle.dns_names.specs.Places.{name_at};
-ghost use Rattle.dns_names.specs.Jumps.{AreJumps, LeadsTo, next_of};
+//! Where chains of pointers lead, so that each is gone through once (RFC 1035 4.1.4).
+//!
+//! A table of jumps has a number for each of the first places of a message, as many as it has room for: how far back
+//! the place lies whose chain of pointers says what the chain at this place says. 0 is true of each place.
+ghost use Rattle.std.specs.Prelude.{◌≡◌, ◌^◌, ◌≤◌, ◌<◌};
+ghost use Rattle.dns_names.specs.Jumps.{AreJumps, IsEnd, LeadsTo};
 
-use dns_wire::DecodeError;
+/// How many octets a message has at most whose table is small.
+const SHORT_MESSAGE: usize = 512;
+
+/// How many places a pointer can name.
+const PLACES: usize = 0x4000;
+
+/// What `read` answers where it gets a table of jumps for the message: all zeros, and with room for each place that a
+/// pointer can name.
+pub fn with_jumps<T, F: FnOnce(&mut [u16]) -> T>(message: &[u8], read: F) -> T
+    requires { (jumps : _) → AreJumps message.now jumps.now → F.pre read jumps }
+    ensures { (jumps : _) × (after : _) × AreJumps message.now jumps.now × F.post read jumps result after }
+{
+    if message.len() <= SHORT_MESSAGE {
+        with_few_jumps(message, read)
+    } else {
+        with_all_jumps(message, read)
+    }
+}
+
+/// As `with_jumps`, for a short message.
+fn with_few_jumps<T, F: FnOnce(&mut [u16]) -> T>(message: &[u8], read: F) -> T
+    requires { (jumps : _) → AreJumps message.now jumps.now → F.pre read jumps }
+    ensures { (jumps : _) × (after : _) × AreJumps message.now jumps.now × F.post read jumps result after }
+{
+    let mut jumps = [0; SHORT_MESSAGE];
+    read(&mut jumps)
+}
+
+/// As `with_jumps`, for any message.
+fn with_all_jumps<T, F: FnOnce(&mut [u16]) -> T>(message: &[u8], read: F) -> T
+    requires { (jumps : _) → AreJumps message.now jumps.now → F.pre read jumps }
+    ensures { (jumps : _) × (after : _) × AreJumps message.now jumps.now × F.post read jumps result after }
+{
+    let mut jumps = [0; PLACES];
+    read(&mut jumps)
+}
 
 /// A place that the one at `place` leads to: farther back, or itself where no pointer stands that leads back.
 #[tactic(auto, using(crate::proofs::Chains::steps))]
@@ -11,6 +48,7 @@ fn hop(octets: &[u8], place: usize, jumps: &[u16]) -> usize
     requires jumps { AreJumps octets.now jumps.now }
     ensures leads { LeadsTo octets.now place result }
     ensures back { result ≤ place }
+    ensures end { result ≡ place → IsEnd octets.now place }
 {
     if place >= octets.len() || octets.len() - place < 2 {
         return place;
@@ -20,9 +58,9 @@ fn hop(octets: &[u8], place: usize, jumps: &[u16]) -> usize
         return place;
     }
     if place < jumps.len() {
-        let jump = jumps[place] as usize;
-        if jump > 0 {
-            return place - jump;
+        let back = jumps[place] as usize;
+        if back > 0 {
+            return place - back;
         }
     }
     let target = (octet * 256 + octets[place + 1] as usize) % 0x4000;
@@ -30,6 +68,24 @@ fn hop(octets: &[u8], place: usize, jumps: &[u16]) -> usize
         return place;
     }
     target
+}
+
+/// The last place of the chain of pointers that begins at `first`.
+#[tactic(auto, using(crate::proofs::Chains::steps))]
+fn end_of_chain(octets: &[u8], first: usize, jumps: &[u16]) -> usize
+    requires jumps { AreJumps octets.now jumps.now }
+    ensures leads { LeadsTo octets.now first result }
+    ensures back { result ≤ first }
+    ensures end { IsEnd octets.now result }
+{
+    let mut place = first;
+    loop {
+        let next = hop(octets, place, jumps);
+        if next >= place {
+            return place;
+        }
+        place = next;
+    }
 }
 
 /// The last place of the chain of pointers that begins at `first`. Each place of the chain leads there from now on.
@@ -40,8 +96,9 @@ pub(crate) fn last_of_chain(octets: &[u8], first: usize, jumps: &mut [u16]) -> u
     ensures jumps { AreJumps octets.now jumps.new }
     ensures leads { LeadsTo octets.now first result }
     ensures back { result ≤ first }
+    ensures end { IsEnd octets.now result }
 {
-    let last = chain_end(octets, first, jumps);
+    let last = end_of_chain(octets, first, jumps);
     let mut place = first;
     while place > last {
         let next = hop(octets, place, jumps);
@@ -54,76 +111,4 @@ pub(crate) fn last_of_chain(octets: &[u8], first: usize, jumps: &mut [u16]) -> u
         place = next;
     }
     last
-}
-
-/// The last place of the chain of pointers that begins at `first`.
-#[tactic(auto, using(crate::proofs::Chains::steps))]
-fn chain_end(octets: &[u8], first: usize, jumps: &[u16]) -> usize
-    requires jumps { AreJumps octets.now jumps.now }
-    ensures leads { LeadsTo octets.now first result }
-    ensures back { result ≤ first }
-{
-    let mut place = first;
-    loop {
-        let next = hop(octets, place, jumps);
-        if next >= place {
-            return place;
-        }
-        place = next;
-    }
-}
-
-/// The place behind the name at `place`, whose first run ends at or before `end`.
-///
-/// # Errors
-///
-/// Those of `Name::read_within`.
-#[tactic(auto, using(crate::proofs::Chains::exits))]
-pub fn skip_name(
-    octets: &[u8],
-    mut place: usize,
-    mut end: usize,
-    jumps: &mut [u16],
-) -> Result<usize, DecodeError>
-    requires inside { end ≤ length octets.now }
-    requires jumps { AreJumps octets.now jumps.old }
-    ensures value { result ≡ next_of (name_at octets.now place end) }
-    ensures jumps { AreJumps octets.now jumps.new }
-{
-    let mut run = place;
-    let mut next = None;
-    let mut size = 1;
-    'reading: loop {
-        if place >= end {
-            return Err(DecodeError::InsufficientBytes);
-        }
-        let octet = octets[place] as usize;
-        if octet == 0 {
-            return Ok(next.unwrap_or(place + 1));
-        } else if octet < 64 {
-            let behind = place + 1 + octet;
-            if size + octet + 1 > 255 {
-                return Err(DecodeError::NameMalformed);
-            }
-            if behind > end {
-                return Err(DecodeError::InsufficientBytes);
-            }
-            size += octet + 1;
-            place = behind;
-        } else if octet < 192 {
-            return Err(DecodeError::NameMalformed);
-        } else {
-            if place + 2 > end {
-                return Err(DecodeError::InsufficientBytes);
-            }
-            let target = (octet * 256 + octets[place + 1] as usize) % 0x4000;
-            if target >= run {
-                return Err(DecodeError::NameMalformed);
-            }
-            next = next.or(Some(place + 2));
-            run = last_of_chain(octets, target, jumps);
-            place = run;
-            end = octets.len();
-        }
-    }
 }

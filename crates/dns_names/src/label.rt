@@ -11,10 +11,13 @@ use dns_wire::NameError;
 use std::hash::{Hash, Hasher};
 use std::marker::Model;
 
+/// How many octets a label has at most (RFC 1035 2.3.4).
+pub(crate) const MAX_LABEL: usize = 63;
+
 /// A label of 1 to 63 octets. Its equality keeps the case of letters.
 #[derive(Clone, Copy)]
 pub struct Label {
-    octets: [u8; 63],
+    octets: [u8; MAX_LABEL],
     len: u8,
 }
 
@@ -49,10 +52,10 @@ impl Label {
         if octets.is_empty() {
             return Err(NameError::EmptyLabel);
         }
-        if octets.len() > 63 {
+        if octets.len() > MAX_LABEL {
             return Err(NameError::LabelTooLong);
         }
-        let mut held = [0; 63];
+        let mut held = [0; MAX_LABEL];
         held[..octets.len()].copy_from_slice(octets);
         Ok(Label {
             octets: held,

@@ -1,44 +1,43 @@
 //! Domain names.
-ghost use Rattle.std.specs.Prelude.{◌≡◌, ℕ, ◌+◌, ◌≤◌, ◌<◌, ◌++◌, ◌↔◌, List, [], ◌∷◌, length, IsTrue, IfOk, OnOk, MatchResult, Ok};
+ghost use Rattle.std.specs.Prelude.{◌≡◌, ℕ, ◌+◌, ◌≤◌, ◌<◌, ◌++◌, ◌↔◌, List, [], ◌∷◌, length, IsTrue, MatchResult, Ok};
+ghost use Rattle.std.specs.Prelude.{Err};
 ghost use Rattle.std.specs.Cmp.{on_equiv, on_per, partial_equiv_from_equiv};
 ghost use Rattle.std.proofs.lemmas.Cmp.{lists_equiv, nat_eq_equiv};
 ghost use Rattle.std.specs.Hash as fed;
 ghost use Rattle.dns_wire.specs.Octets.{lowered};
 ghost use Rattle.dns_names.specs.Names.{wire, low, same, IsName};
 ghost use Rattle.dns_names.specs.NameLaws.{same_alike};
-ghost use Rattle.dns_names.specs.Places.{NameAt, name_at};
-ghost use Rattle.dns_names.specs.Jumps.{AreJumps};
 ghost use Rattle.std.specs.Iterator.{YieldsFirstRef, item_count};
 ghost use Rattle.dns_names.specs.NameWriting.{name_octets};
+ghost use Rattle.dns_names.specs.NameText.{add_label};
 ghost use Rattle.dns_wire.specs.Writing.{Appends};
-ghost use Rattle.dns_wire.specs.Reading.{octets, place, Reads};
 
-use crate::jumps::last_of_chain;
 use crate::label::Label;
-use dns_wire::{
-    BinDecoder, BinEncodable, BinEncoder, DecodeError, EmitError, NameEncoding, NameError,
-};
+use dns_wire::{BinEncodable, BinEncoder, EmitError, NameEncoding, NameError};
 use std::hash::{Hash, Hasher};
 use std::marker::Model;
 
+/// How many octets the wire form of a name has at most (RFC 1035 2.3.4).
+const MAX_NAME: usize = 255;
+
 /// A domain name: labels of 1 to 63 octets, at most 255 octets on the wire (RFC 1035 3.1).
 ///
-/// A contract sees the list of its labels, leftmost first. Equality, hash and order put the case of ASCII letters aside.
-/// The clause `is_name` of a getter says what every name keeps to.
+/// A contract sees the list of its labels, leftmost first. Equality, hash and order put the case of ASCII letters
+/// aside. The clause `is_name` of a getter says what every name keeps to.
 #[derive(Clone, Copy)]
 pub struct Name {
-    octets: [u8; 255],
+    octets: [u8; MAX_NAME],
     len: u8,
 }
 
 impl Model for Name {
     ghost use Rattle.std.specs.Prelude.{List, ℕ, length};
     ghost use Rattle.std.proofs.Common.{sym};
-    ghost use Rattle.dns_names.specs.Names.{labels_in, wire, padded, HoldsName};
+    ghost use Rattle.dns_names.specs.Names.{labels_of_wire, wire, padded, HoldsName};
 
     ghost Value = { List (List ℕ) };
 
-    ghost view = { λ s. labels_in s.octets };
+    ghost view = { λ s. labels_of_wire s.octets };
 
     ghost invariant = { λ s. HoldsName s.octets s.len };
 
@@ -53,7 +52,7 @@ impl Name {
         ensures { result ≡ [] }
     {
         Name {
-            octets: [0; 255],
+            octets: [0; MAX_NAME],
             len: 1,
         }
     }
@@ -96,72 +95,24 @@ impl Name {
         self.len = (start + 1 + label.len()) as u8;
     }
 
-    /// Reads the name at the decoder's place, its first run ending at or before `end` (RFC 1035 4.1.4). A pointer leads before the
-    /// first octet of its own run.
-    ///
-    /// Chains of pointers that were gone through before are known from `jumps`, and those that are met are noted there.
+    /// Adds a label at the end.
     ///
     /// # Errors
     ///
-    /// `InsufficientBytes` where an octet is needed past the end, `NameMalformed` for a length octet of 64 to 191, for a pointer that
-    /// does not lead before its run and for a wire form above 255 octets: the first octet that fails decides. The decoder then stays
-    /// in place.
-    pub fn read_with(
-        decoder: &mut BinDecoder<'_>,
-        end: usize,
-        jumps: &mut [u16],
-    ) -> Result<Name, DecodeError>
-        requires ahead { place decoder.old ≤ end }
-        requires jumps { AreJumps (octets decoder.old) jumps.old }
-        requires inside { end ≤ length (octets decoder.old) }
-        ensures found { IfOk result (λ n. NameAt (octets decoder.old) (place decoder.old) end n (place decoder.new)) }
-        ensures only { (n : List (List ℕ)) (q : ℕ) → NameAt (octets decoder.old) (place decoder.old) end n q → (result ≡ Ok n) × (place decoder.new ≡ q) }
-        ensures exact { Reads (λ n. n) result decoder.old decoder.new (name_at (octets decoder.old) (place decoder.old) end) }
-        ensures name { IfOk result IsName }
-        ensures jumps { AreJumps (octets decoder.old) jumps.new }
-        ensures inside { place decoder.new ≤ end }
+    /// `EmptyLabel` where it has no octet, `NameTooLong` where the wire form would pass 255 octets.
+    pub(crate) fn add_label(&mut self, label: &[u8]) -> Result<(), NameError>
+        requires { length label.now ≤ 63 }
+        ensures { MatchResult result (λ _. (add_label self.old label.now ≡ Ok self.new) × IsName self.new)
+            (λ e. add_label self.old label.now ≡ Err e) }
     {
-        let (name, next) = read_at(decoder.buffer(), decoder.index(), end, jumps)?;
-        // The field shows the proof that the value is a name.
-        let _ = &name.octets;
-        decoder.set_index(next);
-        Ok(name)
-    }
-
-    /// Reads the name at the decoder's place, its first run ending at or before `end` (RFC 1035 4.1.4). A pointer leads before the
-    /// first octet of its own run.
-    ///
-    /// # Errors
-    ///
-    /// `InsufficientBytes` where an octet is needed past the end, `NameMalformed` for a length octet of 64 to 191, for a pointer that
-    /// does not lead before its run and for a wire form above 255 octets: the first octet that fails decides. The decoder then stays
-    /// in place.
-    pub fn read_within(decoder: &mut BinDecoder<'_>, end: usize) -> Result<Name, DecodeError>
-        requires ahead { place decoder.old ≤ end }
-        requires inside { end ≤ length (octets decoder.old) }
-        ensures found { IfOk result (λ n. NameAt (octets decoder.old) (place decoder.old) end n (place decoder.new)) }
-        ensures only { (n : List (List ℕ)) (q : ℕ) → NameAt (octets decoder.old) (place decoder.old) end n q → (result ≡ Ok n) × (place decoder.new ≡ q) }
-        ensures exact { Reads (λ n. n) result decoder.old decoder.new (name_at (octets decoder.old) (place decoder.old) end) }
-        ensures name { IfOk result IsName }
-        ensures inside { place decoder.new ≤ end }
-    {
-        Name::read_with(decoder, end, &mut [])
-    }
-
-    /// Reads the name at the decoder's place, as `read_within` up to the end of the octets.
-    ///
-    /// # Errors
-    ///
-    /// Those of `read_within`.
-    pub fn read(decoder: &mut BinDecoder<'_>) -> Result<Name, DecodeError>
-        ensures found { IfOk result (λ n. NameAt (octets decoder.old) (place decoder.old) (length (octets decoder.old)) n (place decoder.new)) }
-        ensures only { (n : List (List ℕ)) (q : ℕ) → NameAt (octets decoder.old) (place decoder.old) (length (octets decoder.old)) n q → (result ≡ Ok n) × (place decoder.new ≡ q) }
-        ensures exact { Reads (λ n. n) result decoder.old decoder.new (name_at (octets decoder.old) (place decoder.old) (length (octets decoder.old))) }
-        ensures name { IfOk result IsName }
-        ensures inside { place decoder.new ≤ length (octets decoder.new) }
-    {
-        let end = decoder.index() + decoder.len();
-        Name::read_within(decoder, end)
+        if label.is_empty() {
+            return Err(NameError::EmptyLabel);
+        }
+        if !has_room(self.len(), label.len()) {
+            return Err(NameError::NameTooLong);
+        }
+        self.push(label);
+        Ok(())
     }
 
     /// The name of these labels, leftmost first.
@@ -170,15 +121,12 @@ impl Name {
     ///
     /// `NameTooLong` where the wire form passes 255 octets.
     pub fn from_labels(labels: &[Label]) -> Result<Name, NameError>
-        ensures { MatchResult result (λ n. (n ≡ labels.now) × IsName n) (λ e. (e ≡ NameError.NameTooLong) × (255 < length (wire labels.now))) }
+        ensures { MatchResult result (λ n. (n ≡ labels.now) × IsName n)
+            (λ e. (e ≡ NameError.NameTooLong) × (255 < length (wire labels.now))) }
     {
         let mut name = Name::root();
         for label in labels {
-            let octets = label.as_slice();
-            if name.len() + octets.len() + 1 > 255 {
-                return Err(NameError::NameTooLong);
-            }
-            name.push(octets);
+            name.add_label(label.as_slice())?;
         }
         Ok(name)
     }
@@ -207,7 +155,7 @@ impl Name {
         ensures is_name { IsName result }
     {
         let wire = labels.rest;
-        let mut octets = [0; 255];
+        let mut octets = [0; MAX_NAME];
         octets[..wire.len()].copy_from_slice(wire);
         Name {
             octets,
@@ -251,55 +199,11 @@ impl BinEncodable for Name {
     }
 }
 
-/// The name at `place`, its first run ending at or before `end`, and the place behind that run.
-#[tactic(auto, using(crate::proofs::Chains::name_exits))]
-fn read_at(
-    buffer: &[u8],
-    mut place: usize,
-    mut end: usize,
-    jumps: &mut [u16],
-) -> Result<(Name, usize), DecodeError>
-    requires inside { end ≤ length buffer.now }
-    requires jumps { AreJumps buffer.now jumps.old }
-    ensures value { result ≡ name_at buffer.now place end }
-    ensures jumps { AreJumps buffer.now jumps.new }
+/// Whether a wire form of `size` octets has room for one more label, of `label` octets.
+pub(crate) fn has_room(size: usize, label: usize) -> bool
+    ensures { IsTrue result ↔ (size + label + 1 ≤ 255) }
 {
-    let mut name = Name::root();
-    let mut run = place;
-    let mut next = None;
-    'octets: loop {
-        if place >= end {
-            return Err(DecodeError::InsufficientBytes);
-        }
-        let octet = buffer[place] as usize;
-        if octet == 0 {
-            return Ok((name, next.unwrap_or(place + 1)));
-        } else if octet < 64 {
-            let behind = place + 1 + octet;
-            if name.len() + octet + 1 > 255 {
-                return Err(DecodeError::NameMalformed);
-            }
-            if behind > end {
-                return Err(DecodeError::InsufficientBytes);
-            }
-            name.push(&buffer[place + 1..behind]);
-            place = behind;
-        } else if octet < 192 {
-            return Err(DecodeError::NameMalformed);
-        } else {
-            if place + 2 > end {
-                return Err(DecodeError::InsufficientBytes);
-            }
-            let target = (octet * 256 + buffer[place + 1] as usize) % 0x4000;
-            if target >= run {
-                return Err(DecodeError::NameMalformed);
-            }
-            next = next.or(Some(place + 2));
-            run = last_of_chain(buffer, target, jumps);
-            place = run;
-            end = buffer.len();
-        }
-    }
+    label < MAX_NAME.saturating_sub(size)
 }
 
 /// The labels of a name that are left, leftmost first.
@@ -310,11 +214,11 @@ pub struct LabelIter<'a> {
 
 impl<'a> Model for LabelIter<'a> {
     ghost use Rattle.std.specs.Prelude.{List, ℕ};
-    ghost use Rattle.dns_names.specs.Names.{labels_in, IsWire};
+    ghost use Rattle.dns_names.specs.Names.{labels_of_wire, IsWire};
 
     ghost Value = { List (List ℕ) };
 
-    ghost view = { λ s. labels_in s.rest.now };
+    ghost view = { λ s. labels_of_wire s.rest.now };
 
     ghost invariant = { λ s. IsWire s.rest.now };
 }

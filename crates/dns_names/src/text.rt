@@ -1,7 +1,9 @@
-//! Names as text (RFC 1035 5.1). Each loop that writes has a value of its own, an octet, a label or a name, whose text is stated.
+//! Names as text (RFC 1035 5.1). Each loop that writes has a value of its own, an octet, a label or a name, whose text
+//! is stated.
 ghost use Rattle.std.specs.Prelude.{◌≡◌, ◌++◌, ◌∷◌, [], Some};
 ghost use Rattle.std.specs.List.{flat_map};
-ghost use Rattle.dns_names.specs.NameText.{is_special, octet_text, octets_text, label_text, name_text, bare_name_text};
+ghost use Rattle.dns_names.specs.NameText.{is_special, octet_text, octets_text, label_text, name_text};
+ghost use Rattle.dns_names.specs.NameText.{name_text_without_dot};
 
 use crate::label::Label;
 use crate::name::Name;
@@ -78,8 +80,8 @@ impl fmt::Debug for Label {
     }
 }
 
-/// Each label with its dot; the root is one dot. A visible octet stands for itself, with a backslash before `.`, `\`, `"`, `(`, `)`,
-/// `;`, `@` and `$`, and any other octet is a backslash and three decimal digits.
+/// Each label with its dot; the root is one dot. A visible octet stands for itself, with a backslash before `.`, `\`,
+/// `"`, `(`, `)`, `;`, `@` and `$`, and any other octet is a backslash and three decimal digits.
 impl fmt::Display for Name {
     ghost output = { λ name. Some (name_text name) };
 
@@ -96,10 +98,10 @@ impl fmt::Display for Name {
 
 /// A name that prints as `Name` does, without its last dot. The root is one dot.
 #[derive(Clone, Copy)]
-pub struct BareName<'a>(pub &'a Name);
+pub struct NameWithoutDot<'a>(pub &'a Name);
 
-impl fmt::Display for BareName<'_> {
-    ghost output = { λ name. Some (bare_name_text name.0.now) };
+impl fmt::Display for NameWithoutDot<'_> {
+    ghost output = { λ name. Some (name_text_without_dot name.0.now) };
 
     fn fmt<W: fmt::Write>(&self, f: &mut fmt::Formatter<W>) -> fmt::Result {
         let mut labels = self.0.iter();

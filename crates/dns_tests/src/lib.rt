@@ -1,8 +1,10 @@
-//! Tests of texts, octets, names and types, by their public names.
+//! Tests of texts, octets, names, types and fields, by their public names.
 #![tactic(auto)]
 
 #[cfg(test)]
 mod code_text;
+#[cfg(test)]
+mod grammar;
 #[cfg(test)]
 mod hierarchy;
 #[cfg(test)]

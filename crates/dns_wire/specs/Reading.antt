@@ -1,5 +1,7 @@
--- Reading from left to right within a string of octets. A reading gives a value and the place behind it, or the first fault.
-use Rattle.std.specs.Prelude.{◌≡◌, ◌⊎◌, ℕ, zero, suc, ◌+◌, ◌*◌, ◌^◌, ◌≤◌, List, [], ◌∷◌, length, take, drop, nat_le, if◌then◌else◌, Result, Ok, Err}
+-- Reading from left to right within a string of octets. A reading gives a value and the place behind it, or the first
+-- fault.
+use Rattle.std.specs.Prelude.{◌≡◌, ◌⊎◌, ℕ, zero, suc, ◌+◌, ◌*◌, ◌^◌, ◌≤◌, List, [], ◌∷◌, length, take, drop, nat_le}
+use Rattle.std.specs.Prelude.{if◌then◌else◌, Result, Ok, Err}
 use Rattle.std.specs.Int.{Width, w16, w32, byte_len, from_be_bytes}
 use Rattle.dns_wire.specs.declared.decoder.BinDecoder.{BinDecoder}
 use Rattle.dns_wire.specs.declared.error.DecodeError.{DecodeError}
@@ -66,7 +68,8 @@ NumberAt w m p e n q = (x : List ℕ) × OctetsAt (byte_len w) m p e x q × (n �
 
 -- n is the number in six octets from p up to q
 abbrev pub TimeAt : List ℕ → ℕ → ℕ → ℕ → ℕ → Type 0
-TimeAt m p e n q = (x : List ℕ) × OctetsAt 6 m p e x q × (n ≡ from_be_bytes w16 (take 2 x) * 2 ^ 32 + from_be_bytes w32 (drop 2 x))
+TimeAt m p e n q = (x : List ℕ) × OctetsAt 6 m p e x q
+    × (n ≡ from_be_bytes w16 (take 2 x) * 2 ^ 32 + from_be_bytes w32 (drop 2 x))
 
 -- x is the octets up to q behind their count, which stands at p
 abbrev pub CountedAt : Width → List ℕ → ℕ → ℕ → List ℕ → ℕ → Type 0
@@ -84,13 +87,16 @@ abbrev pub GivesUnless : {X Y E : Type 0} → E → (X → Y) → Result X E →
 GivesUnless none view (Ok x) given = given ≡ Ok (view x)
 GivesUnless none view (Err e) given = (e ≡ none) ⊎ (given ≡ Err e)
 
--- The answer of a call that moved a decoder is what reading gives: a value and the place behind it, at or behind the old place of the
--- same octets; or the first fault, and then the decoder is as it was.
-abbrev pub Reads : {X Y : Type 0} → (X → Y) → Result X DecodeError → BinDecoder → BinDecoder → Result (Y × ℕ) DecodeError → Type 0
+-- The answer of a call that moved a decoder is what reading gives: a value and the place behind it, at or behind the
+-- old place of the same octets; or the first fault, and then the decoder is as it was.
+abbrev pub Reads : {X Y : Type 0} → (X → Y) → Result X DecodeError → BinDecoder → BinDecoder
+    → Result (Y × ℕ) DecodeError → Type 0
 Reads view (Ok x) old new given = (given ≡ Ok (view x, place new)) × (octets new ≡ octets old) × (place old ≤ place new)
 Reads view (Err e) old new given = (given ≡ Err e) × (new ≡ old)
 
 -- the same, but that want of memory may come in place of any answer
-abbrev pub ReadsUnless : {X Y : Type 0} → (X → Y) → Result X DecodeError → BinDecoder → BinDecoder → Result (Y × ℕ) DecodeError → Type 0
-ReadsUnless view (Ok x) old new given = (given ≡ Ok (view x, place new)) × (octets new ≡ octets old) × (place old ≤ place new)
+abbrev pub ReadsUnless : {X Y : Type 0} → (X → Y) → Result X DecodeError → BinDecoder → BinDecoder
+    → Result (Y × ℕ) DecodeError → Type 0
+ReadsUnless view (Ok x) old new given = (given ≡ Ok (view x, place new)) × (octets new ≡ octets old)
+    × (place old ≤ place new)
 ReadsUnless view (Err e) old new given = ((e ≡ faults.OutOfMemory) ⊎ (given ≡ Err e)) × (new ≡ old)

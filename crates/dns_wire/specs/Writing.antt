@@ -15,8 +15,8 @@ abbrev pub Appends : Result (Unit {0}) EmitError → Output → Output → List 
 Appends (Ok _) old new octets = new ≡ record old { octets = old.octets ++ octets }
 Appends (Err e) old new octets = (e ≡ OutOfMemory) × (new ≡ old)
 
--- Ok put the octets that are written at the end; an error is want of memory, or the one for which nothing is written, and
--- changed nothing.
+-- Ok put the octets that are written at the end; an error is want of memory, or the one for which nothing is written,
+-- and changed nothing.
 abbrev pub Writes : Result (Unit {0}) EmitError → Output → Output → Result (List ℕ) EmitError → Type 0
 Writes (Ok _) old new (Ok octets) = new ≡ record old { octets = old.octets ++ octets }
 Writes (Ok _) old new (Err e) = ⊥

@@ -76,7 +76,8 @@ impl<'a> BinDecoder<'a> {
     pub fn read_slice_within(&mut self, n: usize, end: usize) -> Result<&'a [u8], DecodeError>
         requires ahead { place self.old ≤ end }
         requires inside { end ≤ length (octets self.old) }
-        ensures exact { Reads (λ octets. octets.now) result self.old self.new (octets_at n (octets self.old) (place self.old) end) }
+        ensures exact { Reads (λ octets. octets.now) result self.old self.new
+            (octets_at n (octets self.old) (place self.old) end) }
         ensures inside { place self.new ≤ end }
         ensures length { IfOk result (λ octets. length octets.now ≡ n) }
     {
@@ -145,7 +146,8 @@ impl<'a> BinDecoder<'a> {
     pub fn read_counted8_within(&mut self, end: usize) -> Result<&'a [u8], DecodeError>
         requires ahead { place self.old ≤ end }
         requires inside { end ≤ length (octets self.old) }
-        ensures exact { Reads (λ octets. octets.now) result self.old self.new (counted_at w8 (octets self.old) (place self.old) end) }
+        ensures exact { Reads (λ octets. octets.now) result self.old self.new
+            (counted_at w8 (octets self.old) (place self.old) end) }
         ensures inside { place self.new ≤ end }
         ensures fits { IfOk result (λ octets. length octets.now < 2 ^ 8) }
     {
@@ -165,7 +167,8 @@ impl<'a> BinDecoder<'a> {
     pub fn read_counted16_within(&mut self, end: usize) -> Result<&'a [u8], DecodeError>
         requires ahead { place self.old ≤ end }
         requires inside { end ≤ length (octets self.old) }
-        ensures exact { Reads (λ octets. octets.now) result self.old self.new (counted_at w16 (octets self.old) (place self.old) end) }
+        ensures exact { Reads (λ octets. octets.now) result self.old self.new
+            (counted_at w16 (octets self.old) (place self.old) end) }
         ensures inside { place self.new ≤ end }
         ensures fits { IfOk result (λ octets. length octets.now < 2 ^ 16) }
     {
@@ -201,7 +204,8 @@ impl<'a> BinDecoder<'a> {
     ///
     /// `InsufficientBytes` where fewer octets are left.
     pub fn read_u8(&mut self) -> Result<u8, DecodeError>
-        ensures exact { Reads (λ n. n) result self.old self.new (number_at w8 (octets self.old) (place self.old) (length (octets self.old))) }
+        ensures exact { Reads (λ n. n) result self.old self.new
+            (number_at w8 (octets self.old) (place self.old) (length (octets self.old))) }
         ensures inside { place self.new ≤ length (octets self.new) }
     {
         self.read_u8_within(self.buffer.len())
@@ -213,7 +217,8 @@ impl<'a> BinDecoder<'a> {
     ///
     /// `InsufficientBytes` where fewer octets are left.
     pub fn read_u16(&mut self) -> Result<u16, DecodeError>
-        ensures exact { Reads (λ n. n) result self.old self.new (number_at w16 (octets self.old) (place self.old) (length (octets self.old))) }
+        ensures exact { Reads (λ n. n) result self.old self.new
+            (number_at w16 (octets self.old) (place self.old) (length (octets self.old))) }
         ensures inside { place self.new ≤ length (octets self.new) }
     {
         self.read_u16_within(self.buffer.len())
@@ -225,7 +230,8 @@ impl<'a> BinDecoder<'a> {
     ///
     /// `InsufficientBytes` where fewer octets are left.
     pub fn read_u32(&mut self) -> Result<u32, DecodeError>
-        ensures exact { Reads (λ n. n) result self.old self.new (number_at w32 (octets self.old) (place self.old) (length (octets self.old))) }
+        ensures exact { Reads (λ n. n) result self.old self.new
+            (number_at w32 (octets self.old) (place self.old) (length (octets self.old))) }
         ensures inside { place self.new ≤ length (octets self.new) }
     {
         self.read_u32_within(self.buffer.len())
@@ -237,7 +243,8 @@ impl<'a> BinDecoder<'a> {
     ///
     /// `InsufficientBytes` where fewer octets are left.
     pub fn read_slice(&mut self, n: usize) -> Result<&'a [u8], DecodeError>
-        ensures exact { Reads (λ octets. octets.now) result self.old self.new (octets_at n (octets self.old) (place self.old) (length (octets self.old))) }
+        ensures exact { Reads (λ octets. octets.now) result self.old self.new
+            (octets_at n (octets self.old) (place self.old) (length (octets self.old))) }
         ensures inside { place self.new ≤ length (octets self.new) }
     {
         self.read_slice_within(n, self.buffer.len())

@@ -31,7 +31,12 @@ impl Model for BinEncoder {
 
     ghost Value = { Output };
 
-    ghost view = { λ s. record { octets = s.octets.items; name_encoding = s.name_encoding; canonical_form = s.canonical_form } };
+    ghost view = { λ s. record {
+      octets = s.octets.items;
+      name_encoding = s.name_encoding;
+      canonical_form =
+          s.canonical_form;
+    } };
 }
 
 impl BinEncoder {
@@ -50,7 +55,7 @@ impl BinEncoder {
     ///
     /// # Errors
     ///
-    /// Want of memory.
+    /// Out of memory.
     pub fn emit_vec(&mut self, octets: &[u8]) -> Result<(), EmitError>
         ensures { Appends result self.old self.new octets.now }
     {
@@ -62,7 +67,7 @@ impl BinEncoder {
     ///
     /// # Errors
     ///
-    /// Want of memory.
+    /// Out of memory.
     pub fn emit_both(&mut self, first: &[u8], second: &[u8]) -> Result<(), EmitError>
         ensures { Appends result self.old self.new (first.now ++ second.now) }
     {
@@ -80,7 +85,7 @@ impl BinEncoder {
     ///
     /// # Errors
     ///
-    /// Want of memory.
+    /// Out of memory.
     pub fn emit_u8(&mut self, n: u8) -> Result<(), EmitError>
         ensures { Appends result self.old self.new (n ∷ []) }
     {
@@ -91,7 +96,7 @@ impl BinEncoder {
     ///
     /// # Errors
     ///
-    /// Want of memory.
+    /// Out of memory.
     pub fn emit_u16(&mut self, n: u16) -> Result<(), EmitError>
         ensures { Appends result self.old self.new (two_octets n) }
     {
@@ -102,7 +107,7 @@ impl BinEncoder {
     ///
     /// # Errors
     ///
-    /// Want of memory.
+    /// Out of memory.
     pub fn emit_u32(&mut self, n: u32) -> Result<(), EmitError>
         ensures { Appends result self.old self.new (four_octets n) }
     {

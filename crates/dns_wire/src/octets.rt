@@ -30,7 +30,7 @@ impl Octets {
     ///
     /// # Errors
     ///
-    /// Want of memory.
+    /// Out of memory.
     pub fn from_slice(alloc: Global, octets: &[u8]) -> Result<Octets, OutOfMemory>
         ensures { IfOk result (λ held. held ≡ octets.now) }
     {
@@ -72,7 +72,7 @@ impl Octets {
     ///
     /// # Errors
     ///
-    /// Want of memory.
+    /// Out of memory.
     pub fn try_clone(&self) -> Result<Octets, OutOfMemory>
         ensures { IfOk result (λ held. held ≡ self.now) }
     {

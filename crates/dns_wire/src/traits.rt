@@ -23,7 +23,8 @@ pub trait BinEncodable {
     ///
     /// The cause for which there are no octets, or `OutOfMemory`.
     fn emit(&self, encoder: &mut BinEncoder) -> Result<(), EmitError>
-        ensures { Writes result encoder.old encoder.new (written encoder.old.canonical_form encoder.old.name_encoding self.now) };
+        ensures { Writes result encoder.old encoder.new
+            (written encoder.old.canonical_form encoder.old.name_encoding self.now) };
 }
 
 /// A value that is read from octets.

@@ -1,5 +1,5 @@
 -- The text and the status of a session.
-use Rattle.std.specs.Prelude.{◌≡◌, ℕ, ◌<◌, ◌≤◌, List, [], ◌∷◌, ◌++◌, length, codes, map, if◌then◌else◌, Option, Some, None, Result, Ok, Err, is_ok}
+use Rattle.std.specs.Prelude.{◌≡◌, ℕ, ◌<◌, ◌≤◌, List, [], ◌∷◌, ◌++◌, length, codes, map, if◌then◌else◌, Option, Result, Ok, Err, is_ok}
 use Rattle.std.specs.declared.alloc.Global.{Global}
 use Rattle.std.specs.List.{flat_map, list_all, enumerate_from}
 use Rattle.std.specs.String.{string_bytes}
@@ -13,6 +13,7 @@ use Rattle.sec_tsig.specs.declared.first_set.FirstSet.{FirstSet}
 use Rattle.sec_tsig.specs.declared.verifier.FirstError.{FirstError}
 use Rattle.sec_tsig.specs.Verdict.{Chain}
 use Rattle.sec_tsig.specs.FirstMessages.{first_answer}
+use Rattle.dnscheck.specs.declared.error.ScriptError.{ScriptError}
 use Rattle.dnscheck.specs.Script.{Answer, Script, script_of}
 use Rattle.dnscheck.specs.Text.{request_text, accepted_text, refused_text, set_text, fault_text}
 
@@ -29,13 +30,13 @@ answer_text number (Err cause) = refused_text number cause
 abbrev pub answers_text : List (Result (List FirstSet) FirstError) → List ℕ
 answers_text found = flat_map (λ numbered. answer_text numbered.0 numbered.1) (enumerate_from 1 found)
 
-abbrev pub script_text : Option Script → List ℕ
-script_text (Some script) = request_text script.request ++ answers_text (verdicts script.chain script.answers)
-script_text None = fault_text
+abbrev pub script_text : Result Script ScriptError → List ℕ
+script_text (Ok script) = request_text script.signed_request ++ answers_text (verdicts script.chain script.answers)
+script_text (Err _) = fault_text
 
-abbrev pub script_status : Option Script → Status
-script_status (Some script) = if list_all is_ok (verdicts script.chain script.answers) then Accepted else Refused
-script_status None = ScriptFault
+abbrev pub script_status : Result Script ScriptError → Status
+script_status (Ok script) = if list_all is_ok (verdicts script.chain script.answers) then Accepted else Refused
+script_status (Err _) = ScriptFault
 
 -- the text that the octets of a script make
 abbrev pub session : List ℕ → List ℕ

@@ -2,39 +2,31 @@
 //! answer.
 #![tactic(auto)]
 
+mod command_line;
 mod error;
+pub mod run;
 mod script;
 mod session;
 mod text;
-mod top;
 
+use command_line::{behind_program_name, exit_code, status_without_words};
 pub use dns_io::{
     Failed, MemSink, MemSource, PlainSource, Sink, Source, Status, StdSink, StdSource,
 };
 use std::process::ExitCode;
 use std::{env, io};
-pub use top::run;
-
-/// The words of the command line behind the program's name.
-fn words(rt: &HostRuntime) -> io::Result<Vec<String>> {
-    let mut words = Vec::new(rt.alloc());
-    for word in env::args(rt)?.skip(1) {
-        words.push(word)?;
-    }
-    Ok(words)
-}
 
 fn main(rt: HostRuntime) -> ExitCode {
-    let status = match words(&rt) {
-        Ok(words) => {
-            let mut source = StdSource::new(rt.reader());
-            let mut sink = StdSink::new(io::writer(&rt));
-            run(rt.alloc(), &words, &mut source, &mut sink)
-        }
-        Err(error) if error.kind() == io::ErrorKind::OutOfMemory => Status::OutOfMemory,
-        Err(_) => Status::Usage,
-    };
-    ExitCode::from(u8::from(status))
+    let words = env::args(&rt).and_then(|args| Ok(args.collect::<Vec<String>>(rt.alloc())?));
+    exit_code(match words {
+        Ok(words) => run::run(
+            rt.alloc(),
+            behind_program_name(&words),
+            &mut StdSource::new(rt.reader()),
+            &mut StdSink::new(io::writer(&rt)),
+        ),
+        Err(error) => status_without_words(&error),
+    })
 }
 
 #[cfg(test)]

@@ -1,6 +1,6 @@
 //! The text of a session, and its status.
 
-ghost use Rattle.std.specs.Prelude.{◌≡◌, ◌++◌, IfOk, Some, is_ok};
+ghost use Rattle.std.specs.Prelude.{◌≡◌, ◌++◌, IfOk, Ok, is_ok};
 ghost use Rattle.std.specs.String.{string_bytes};
 ghost use Rattle.sec_tsig.specs.FirstMessages.{first_answer};
 ghost use Rattle.dnscheck.specs.Session.{answer_text, script_text, script_status, session, session_status};
@@ -42,10 +42,10 @@ fn push_answer(
 /// Appends the lines of a script, and says what it comes to.
 fn push_script(alloc: Global, text: &mut String, script: &Script) -> Result<Status, OutOfMemory>
     ensures text { IfOk result (λ _. string_bytes text.new
-        ≡ string_bytes text.old ++ script_text (Some script.now)) }
-    ensures status { IfOk result (λ status. status ≡ script_status (Some script.now)) }
+        ≡ string_bytes text.old ++ script_text (Ok script.now)) }
+    ensures status { IfOk result (λ status. status ≡ script_status (Ok script.now)) }
 {
-    push_request(alloc, text, &script.request)?;
+    push_request(text, &script.signed_request)?;
     let octets = script.answer.octets.as_slice();
     if push_answer(alloc, text, 1, &script.verifier, octets)? {
         Ok(Status::Accepted)

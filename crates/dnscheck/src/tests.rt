@@ -1,6 +1,7 @@
 //! Whole runs in memory. The MACs were computed by Python's `hmac`; the texts are written from `docs/SCRIPT.md`.
 
-use crate::{MemSink, MemSource, PlainSource, Status, run};
+use crate::run::run;
+use crate::{MemSink, MemSource, PlainSource, Status};
 use std::alloc::{AllocError, Global};
 use std::process::Abort;
 use std::str;
@@ -455,5 +456,17 @@ fn nothing_written(rt: HostRuntime) -> Result<(), Fail> {
         first_call(alloc)?,
         Status::WriteFault,
     )?;
+    Ok(())
+}
+
+#[test]
+fn input_up_to_the_limit(rt: HostRuntime) -> Result<(), Fail> {
+    let alloc = rt.alloc();
+    let check = words(alloc, "check")?;
+    let mut source = PlainSource::new(vec![in alloc; b'\n'; 16_777_216]?);
+    let mut sink = MemSink::new(room(alloc)?, Vec::new(alloc), 1000);
+    let status = run(alloc, &check, &mut source, &mut sink);
+    assert_eq!(rt; status, Status::ScriptFault);
+    assert_eq!(rt; sink.as_slice(), b"fault\n".as_slice());
     Ok(())
 }

@@ -3,21 +3,17 @@
 ghost use Rattle.std.specs.Prelude.{◌≡◌, ◌++◌, OnOk};
 ghost use Rattle.std.specs.List.{flat_map};
 ghost use Rattle.std.specs.String.{string_bytes};
-ghost use Rattle.dnscheck.specs.Text.{request_text, accepted_text, refused_text, set_text, fault_text, part_word, cause_word};
+ghost use Rattle.dnscheck.specs.Text.{request_text, accepted_text, refused_text, set_text, fault_text, section_word, cause_word};
 
+use dns_text::LowerHex;
 use dns_wire::OutOfMemory;
 use sec_tsig::{FirstError, FirstSet};
-use std::alloc::Global;
 
 /// `request HEX`
-pub(crate) fn push_request(
-    alloc: Global,
-    text: &mut String,
-    octets: &[u8],
-) -> Result<(), OutOfMemory>
+pub(crate) fn push_request(text: &mut String, octets: &[u8]) -> Result<(), OutOfMemory>
     ensures { OnOk result (string_bytes text.new ≡ string_bytes text.old ++ request_text octets.now) }
 {
-    let hex = hex::encode(alloc, octets)?;
+    let hex = LowerHex(octets);
     writeln!(text, "request {hex}")?;
     Ok(())
 }
@@ -43,15 +39,15 @@ pub(crate) fn push_refused(
     Ok(())
 }
 
-/// `PART OWNER CLASS TYPE PROOF`
+/// `SECTION OWNER CLASS TYPE PROOF`
 pub(crate) fn push_set(text: &mut String, set: &FirstSet) -> Result<(), OutOfMemory>
     ensures { OnOk result (string_bytes text.new ≡ string_bytes text.old ++ set_text set.now) }
 {
-    let part = part_word(set.section);
+    let section = section_word(set.section);
     let owner = set.owner;
     let dns_class = set.dns_class;
     let rtype = set.rtype;
-    writeln!(text, "{part} {owner} {dns_class} {rtype} Indeterminate")?;
+    writeln!(text, "{section} {owner} {dns_class} {rtype} Indeterminate")?;
     Ok(())
 }
 
@@ -73,8 +69,8 @@ pub(crate) fn push_fault(text: &mut String) -> Result<(), OutOfMemory>
     Ok(())
 }
 
-fn part_word(section: u8) -> &'static str
-    ensures { result.now ≡ part_word section }
+fn section_word(section: u8) -> &'static str
+    ensures { result.now ≡ section_word section }
 {
     match section {
         0 => "an",

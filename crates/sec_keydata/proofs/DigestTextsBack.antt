@@ -32,11 +32,10 @@ use Rattle.sec_keydata.proofs.TextsBack.{decimal_no_blank, decimal_some, number_
 four_words : (x y z text : List ℕ) → NoBlank x → 0 < length x → NoBlank y → 0 < length y → NoBlank z → 0 < length z
     → words (x ++ codes " " ++ y ++ codes " " ++ z ++ codes " " ++ text) ≡ x ∷ y ∷ z ∷ words text
 four_words x y z text clear_x some_x clear_y some_y clear_z some_z =
-    let apart : x ++ codes " " ++ y ++ codes " " ++ z ++ codes " " ++ text ≡ x ++ 32 ∷ (y ++ 32 ∷ (z ++ 32 ∷ text)) =
-    simp append_assoc in
+    let apart : x ++ codes " " ++ y ++ codes " " ++ z ++ codes " " ++ text
+    ≡ x ++ 32 ∷ (y ++ 32 ∷ (z ++ 32 ∷ text)) = simp append_assoc in
     ap words apart ∙ (word_before x 32 (y ++ 32 ∷ (z ++ 32 ∷ text)) clear_x some_x refl
-    ∙ ap (λ t. x ∷ t)
-    (word_before y 32 (z ++ 32 ∷ text) clear_y some_y refl
+    ∙ ap (λ t. x ∷ t) (word_before y 32 (z ++ 32 ∷ text) clear_y some_y refl
     ∙ ap (λ t. y ∷ t) (word_before z 32 text clear_z some_z refl)))
 
 -- ---- algorithms
@@ -80,8 +79,8 @@ algorithm_back n few =
 upper_hex-encode : (octets : List ℕ) → upper_hex octets ≡ encode_upper octets
 unfolding encode_with
 upper_hex-encode [] = refl
-upper_hex-encode (x ∷ octets) =
-    ap (λ t. slice_index upper_digits (x / 16) ∷ slice_index upper_digits (x % 16) ∷ t) (upper_hex-encode octets)
+upper_hex-encode (x ∷ octets) = ap (λ t. slice_index upper_digits (x / 16) ∷ slice_index upper_digits (x % 16) ∷ t)
+    (upper_hex-encode octets)
 
 length-upper_hex : (octets : List ℕ) → length (upper_hex octets) ≡ 2 * length octets
 length-upper_hex [] = refl
@@ -96,12 +95,13 @@ hex_no_blank (x ∷ octets) = (digit (x / 16), (digit (x % 16), hex_no_blank oct
 
 hex_back : (octets : List ℕ) → AreOctets octets → hex_octets (upper_hex octets) ≡ Ok octets
 hex_back octets are =
-    let pairs : length (upper_hex octets) ≤ length (upper_hex octets) / 2 * 2 =
-    omega (arith, length-upper_hex octets) in
-    let whole : take (length (upper_hex octets) / 2 * 2) (upper_hex octets) ≡ encode_upper octets =
-    take_all (length (upper_hex octets) / 2 * 2) (upper_hex octets) pairs ∙ upper_hex-encode octets in
-    let back : decode_of (encode_upper octets) ≡ Ok octets =
-    decode_of-encode_upper octets (at_place (λ octet. octet < 256) octets are (omega arith)) in
+    let pairs : length (upper_hex octets) ≤ length (upper_hex octets) / 2 * 2 = omega
+    (arith, length-upper_hex octets) in
+    let whole : take (length (upper_hex octets) / 2 * 2) (upper_hex octets)
+    ≡ encode_upper octets = take_all (length (upper_hex octets) / 2 * 2) (upper_hex octets) pairs
+    ∙ upper_hex-encode octets in
+    let back : decode_of (encode_upper octets) ≡ Ok octets = decode_of-encode_upper octets
+    (at_place (λ octet. octet < 256) octets are (omega arith)) in
     ap (λ t. ok_or (result_ok (decode_of t)) BadHex) whole ∙ ap (λ r. ok_or (result_ok r) BadHex) back
 
 -- ---- DS
@@ -111,7 +111,8 @@ ds_of : (x y z text : List ℕ) (tag n kind : ℕ) (octets : List ℕ) → numbe
     → ds_in (x ∷ y ∷ z ∷ text ∷ []) ≡ Ok (record {
       key_tag = tag;
       algorithm = algorithm_numbered n;
-      digest_type = digest_type kind;
+      digest_type =
+          digest_type kind;
       digest = octets;
     })
 ds_of x y z text tag n kind octets a b c d = rw (a, b, c, append-nil text, d) refl
@@ -123,9 +124,8 @@ ds_without_digest x y z tag n kind a b c = rw (a, b, c) refl
 
 module _ (ds : DsData) (small : ds.key_tag < 2 ^ 16) (few : number ds.algorithm < 2 ^ 8)
     (fewer : digest_number ds.digest_type < 2 ^ 8) where
-  words_are : words (ds_text ds)
-      ≡ decimal ds.key_tag ∷ decimal (number ds.algorithm) ∷ decimal (digest_number ds.digest_type) ∷ words
-      (upper_hex ds.digest)
+  words_are : words (ds_text ds) ≡ decimal ds.key_tag ∷ decimal (number ds.algorithm)
+      ∷ decimal (digest_number ds.digest_type) ∷ words (upper_hex ds.digest)
   words_are =
       let few' : number ds.algorithm < 2 ^ 16 = omega (arith, few) in
       let fewer' : digest_number ds.digest_type < 2 ^ 16 = omega (arith, fewer) in
@@ -144,13 +144,13 @@ module _ (ds : DsData) (small : ds.key_tag < 2 ^ 16) (few : number ds.algorithm 
   pub digest_text_back : DsIsByNumber ds → AreOctets ds.digest → 0 < length ds.digest → token_ds (ds_text ds) ≡ Ok ds
   digest_text_back named are some =
       let text : List ℕ = upper_hex ds.digest in
-      let alone : words text ≡ text ∷ [] =
-      word_alone text (hex_no_blank ds.digest) (omega (arith, some, length-upper_hex ds.digest)) in
-      ap ds_in (words_are
-      ∙ ap (λ t. decimal ds.key_tag ∷ decimal (number ds.algorithm) ∷ decimal (digest_number ds.digest_type) ∷ t)
-      alone)
-      ∙ (ds_of (decimal ds.key_tag) (decimal (number ds.algorithm)) (decimal (digest_number ds.digest_type)) text
-      ds.key_tag (number ds.algorithm) (digest_number ds.digest_type) ds.digest
+      let alone : words text ≡ text ∷ [] = word_alone text (hex_no_blank ds.digest)
+      (omega (arith, some, length-upper_hex ds.digest)) in
+      ap ds_in (words_are ∙ ap (λ t. decimal ds.key_tag ∷ decimal (number ds.algorithm)
+      ∷ decimal (digest_number ds.digest_type) ∷ t) alone)
+      ∙ (ds_of (decimal ds.key_tag) (decimal (number ds.algorithm))
+      (decimal (digest_number ds.digest_type)) text ds.key_tag (number ds.algorithm)
+      (digest_number ds.digest_type) ds.digest
       tag_back (algorithm_back (number ds.algorithm) few) kind_back (hex_back ds.digest are)
       ∙ (λ i. let ok : Result DsData TokenError = Ok
       (record {
@@ -163,11 +163,10 @@ module _ (ds : DsData) (small : ds.key_tag < 2 ^ 16) (few : number ds.algorithm 
   pub empty_digest_text_back : length ds.digest ≡ 0 → token_ds (ds_text ds) ≡ Err (Missing Digest)
   empty_digest_text_back none =
       let empty : ds.digest ≡ [] = nil_from_length ds.digest none in
-      ap ds_in (words_are
-      ∙ ap (λ t. decimal ds.key_tag ∷ decimal (number ds.algorithm) ∷ decimal (digest_number ds.digest_type) ∷ t)
-      (ap (λ o. words (upper_hex o)) empty))
-      ∙ ds_without_digest (decimal ds.key_tag) (decimal (number ds.algorithm)) (decimal (digest_number ds.digest_type))
-      ds.key_tag (number ds.algorithm) (digest_number ds.digest_type)
+      ap ds_in (words_are ∙ ap (λ t. decimal ds.key_tag ∷ decimal (number ds.algorithm)
+      ∷ decimal (digest_number ds.digest_type) ∷ t) (ap (λ o. words (upper_hex o)) empty))
+      ∙ ds_without_digest (decimal ds.key_tag) (decimal (number ds.algorithm))
+      (decimal (digest_number ds.digest_type)) ds.key_tag (number ds.algorithm) (digest_number ds.digest_type)
       tag_back (algorithm_back (number ds.algorithm) few) kind_back
 
 pub ruleset digest_texts_back = (digest_text_back, empty_digest_text_back)

@@ -25,8 +25,8 @@ both_clear n false b p q h = absurd (subst HasSome h tt)
 -- a bit of a mask that a number has nothing of is clear in the number
 clear : (n mask i : ℕ) → bit_and n mask ≡ 0 → bit_at mask i ≡ 1 → bit_at n i ≡ 0
 clear n mask i h one =
-    let both : min (bit_at n i) (bit_at mask i) ≡ 0 =
-    sym (bit_at_and n mask i) ∙ (ap (λ x. bit_at x i) h ∙ bit_at-zero i) in
+    let both : min (bit_at n i) (bit_at mask i) ≡ 0 = sym (bit_at_and n mask i)
+    ∙ (ap (λ x. bit_at x i) h ∙ bit_at-zero i) in
     let least : min (bit_at n i) 1 ≡ 0 = subst (λ x. min (bit_at n i) x ≡ 0) one both in
     omega (arith, least)
 

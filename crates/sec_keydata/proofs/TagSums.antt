@@ -22,10 +22,10 @@ pub record HasSum (octets : List ℕ) (place so_many : ℕ) : Type 0 where
 -- two octets more in front
 sum-cons : (a b : ℕ) (octets : List ℕ) → octet_sum (a ∷ b ∷ octets) ≡ 256 * a + b + octet_sum octets
 sum-cons a b octets =
-    let even : sum (even_places (a ∷ b ∷ octets)) ≡ a + sum (even_places octets) =
-    sum_by-cons (λ x. x) a (even_places octets) in
-    let odd : sum (odd_places (a ∷ b ∷ octets)) ≡ b + sum (odd_places octets) =
-    sum_by-cons (λ x. x) b (odd_places octets) in
+    let even : sum (even_places (a ∷ b ∷ octets)) ≡ a
+    + sum (even_places octets) = sum_by-cons (λ x. x) a (even_places octets) in
+    let odd : sum (odd_places (a ∷ b ∷ octets)) ≡ b
+    + sum (odd_places octets) = sum_by-cons (λ x. x) b (odd_places octets) in
     omega (arith, even, odd)
 
 -- one octet more at the end
@@ -76,6 +76,6 @@ pub tag_is : (key : PublicKeyFields) (head : List ℕ) (tag so_many more : ℕ)
     → Ok tag ≡ fields_tag key
 tag_is key head tag so_many more short four whole first behind is =
     let even : length head % 2 ≡ 0 = ap (λ n. n % 2) four in
-    let both : so_many + more ≡ octet_sum (key_octets key) =
-    omega (arith, first, behind, sum-append head key.octets even, ap octet_sum whole) in
+    let both : so_many + more ≡ octet_sum (key_octets key) = omega
+    (arith, first, behind, sum-append head key.octets even, ap octet_sum whole) in
     rw short (ap (λ n. let ok : Result ℕ KeyDataError = Ok n in ok) (is ∙ ap tag_of_sum both))

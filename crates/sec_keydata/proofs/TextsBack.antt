@@ -53,20 +53,20 @@ neither true b h = absurd (cc)
 
 pub no_blanks : (octets : List ℕ) → list_any is_blank octets ≡ false → NoBlank octets
 no_blanks [] h = tt
-no_blanks (x ∷ octets) h =
-    let each = neither (is_blank x) (list_any is_blank octets) h in (each.0, no_blanks octets each.1)
+no_blanks (x ∷ octets) h = let each = neither (is_blank x) (list_any is_blank octets) h in
+    (each.0, no_blanks octets each.1)
 
 before : (word : List ℕ) (blank : ℕ) (rest : List ℕ) → NoBlank word → is_blank blank ≡ true
     → before_first is_blank (word ++ blank ∷ rest) ≡ word
 before [] blank rest none is = before_yes is_blank blank rest is
-before (x ∷ word) blank rest none is =
-    before_no is_blank x (word ++ blank ∷ rest) none.0 ∙ ap (λ t. x ∷ t) (before word blank rest none.1 is)
+before (x ∷ word) blank rest none is = before_no is_blank x (word ++ blank ∷ rest) none.0
+    ∙ ap (λ t. x ∷ t) (before word blank rest none.1 is)
 
 after : (word : List ℕ) (blank : ℕ) (rest : List ℕ) → NoBlank word → is_blank blank ≡ true
     → after_first is_blank (word ++ blank ∷ rest) ≡ rest
 after [] blank rest none is = after_yes is_blank blank rest is
-after (x ∷ word) blank rest none is =
-    after_no is_blank x (word ++ blank ∷ rest) none.0 ∙ after word blank rest none.1 is
+after (x ∷ word) blank rest none is = after_no is_blank x (word ++ blank ∷ rest) none.0
+    ∙ after word blank rest none.1 is
 
 -- a word before a blank
 pub word_before : (word : List ℕ) (blank : ℕ) (rest : List ℕ) → NoBlank word → 0 < length word → is_blank blank ≡ true
@@ -96,11 +96,10 @@ word_alone word none some =
 three_words : (x y z : List ℕ) → NoBlank x → 0 < length x → NoBlank y → 0 < length y
     → words (x ++ codes " 3 " ++ y ++ codes " " ++ z) ≡ x ∷ codes "3" ∷ y ∷ words z
 three_words x y z clear some none more =
-    let apart : x ++ codes " 3 " ++ y ++ codes " " ++ z ≡ x ++ 32 ∷ (codes "3" ++ 32 ∷ (y ++ 32 ∷ z)) =
-    simp append_assoc in
+    let apart : x ++ codes " 3 " ++ y ++ codes " " ++ z
+    ≡ x ++ 32 ∷ (codes "3" ++ 32 ∷ (y ++ 32 ∷ z)) = simp append_assoc in
     ap words apart ∙ (word_before x 32 (codes "3" ++ 32 ∷ (y ++ 32 ∷ z)) clear some refl
-    ∙ ap (λ t. x ∷ t)
-    (word_before (codes "3") 32 (y ++ 32 ∷ z) (refl, tt) (omega arith) refl
+    ∙ ap (λ t. x ∷ t) (word_before (codes "3") 32 (y ++ 32 ∷ z) (refl, tt) (omega arith) refl
     ∙ ap (λ t. codes "3" ∷ t) (word_before y 32 z none more refl)))
 
 -- ---- numbers
@@ -159,18 +158,18 @@ some_symbols a (b ∷ []) = omega arith
 some_symbols a (b ∷ c ∷ octets) = omega arith
 
 base64_no_blank : (octets : List ℕ) → NoBlank (encode_of standard octets)
-base64_no_blank octets =
-    both (λ octet. is_blank octet ≡ false) (encode_symbols table octets) (replicate (padding_len (length octets)) 61)
-    (symbols_no_blank octets) (copies (λ octet. is_blank octet ≡ false) (padding_len (length octets)) 61 refl)
+base64_no_blank octets = both (λ octet. is_blank octet ≡ false) (encode_symbols table octets)
+    (replicate (padding_len (length octets)) 61) (symbols_no_blank octets)
+    (copies (λ octet. is_blank octet ≡ false) (padding_len (length octets)) 61 refl)
 
 base64_some : (octets : List ℕ) → 0 < length octets → 0 < length (encode_of standard octets)
 base64_some [] some = absurd (omega (arith, some))
-base64_some (a ∷ octets) some =
-    omega (
-      arith,
-      some_symbols a octets,
-      length-append (encode_symbols table (a ∷ octets)) (replicate (padding_len (length (a ∷ octets))) 61),
-    )
+base64_some (a ∷ octets) some = omega (
+  arith,
+  some_symbols a octets,
+  length-append (encode_symbols table (a ∷ octets))
+      (replicate (padding_len (length (a ∷ octets))) 61),
+)
 
 no_text : words (encode_of standard []) ≡ []
 unfolding encode_symbols
@@ -179,18 +178,16 @@ no_text = refl
 base64_back : (octets : List ℕ) → AreOctets octets → base64_octets (encode_of standard octets) ≡ Ok octets
 base64_back octets are =
     let bytes : IsBytes octets = at_place (λ octet. octet < 256) octets are (omega arith) in
-    let same : bytes_eq (encode_of standard octets) (encode_of standard octets) ≡ true =
-    (bytes_eq-Decides (encode_of standard octets) (encode_of standard octets)).1 refl in
+    let same : bytes_eq (encode_of standard octets) (encode_of standard octets)
+    ≡ true = (bytes_eq-Decides (encode_of standard octets) (encode_of standard octets)).1 refl in
     rw (decode_of-encode_of standard octets refl bytes, same) refl
 
 -- ---- DNSKEY
 
 dnskey_of : (x y text : List ℕ) (f n : ℕ) (octets : List ℕ) → number_in (2 ^ 16) x ≡ Ok f → number_in (2 ^ 8) y ≡ Ok n
     → base64_octets text ≡ Ok octets
-    → dnskey_in (x ∷ codes "3" ∷ y ∷ text ∷ []) ≡ Ok (record {
-      flags = f;
-      public_key = record { octets = octets; algorithm = algorithm_numbered n };
-    })
+    → dnskey_in (x ∷ codes "3" ∷ y ∷ text ∷ []) ≡ Ok
+    (record { flags = f; public_key = record { octets = octets; algorithm = algorithm_numbered n } })
 dnskey_of x y text f n octets flags algorithm key = rw (flags, algorithm, append-nil text, key) refl
 
 dnskey_without_key : (x y : List ℕ) (f n : ℕ) → number_in (2 ^ 16) x ≡ Ok f → number_in (2 ^ 8) y ≡ Ok n
@@ -198,9 +195,8 @@ dnskey_without_key : (x y : List ℕ) (f n : ℕ) → number_in (2 ^ 16) x ≡ O
 dnskey_without_key x y f n flags algorithm = rw (flags, algorithm) refl
 
 module _ (key : DnsKeyData) (small : key.flags < 2 ^ 16) (few : number key.public_key.algorithm < 2 ^ 8) where
-  words_are : words (dnskey_text key)
-      ≡ decimal key.flags ∷ codes "3" ∷ decimal (number key.public_key.algorithm) ∷ words
-      (encode_of standard key.public_key.octets)
+  words_are : words (dnskey_text key) ≡ decimal key.flags ∷ codes "3" ∷ decimal (number key.public_key.algorithm)
+      ∷ words (encode_of standard key.public_key.octets)
   words_are =
       let less : number key.public_key.algorithm < 2 ^ 16 = omega (arith, few) in
       three_words (decimal key.flags) (decimal (number key.public_key.algorithm))
@@ -217,10 +213,10 @@ module _ (key : DnsKeyData) (small : key.flags < 2 ^ 16) (few : number key.publi
       → token_dnskey (dnskey_text key) ≡ Ok key
   text_back named are some =
       let text : List ℕ = encode_of standard key.public_key.octets in
-      let alone : words text ≡ text ∷ [] =
-      word_alone text (base64_no_blank key.public_key.octets) (base64_some key.public_key.octets some) in
-      ap dnskey_in
-      (words_are ∙ ap (λ t. decimal key.flags ∷ codes "3" ∷ decimal (number key.public_key.algorithm) ∷ t) alone)
+      let alone : words text ≡ text ∷ [] = word_alone text (base64_no_blank key.public_key.octets)
+      (base64_some key.public_key.octets some) in
+      ap dnskey_in (words_are ∙ ap (λ t. decimal key.flags ∷ codes "3" ∷ decimal (number key.public_key.algorithm)
+      ∷ t) alone)
       ∙ (dnskey_of (decimal key.flags) (decimal (number key.public_key.algorithm)) text key.flags
       (number key.public_key.algorithm) key.public_key.octets flags_back algorithm_back
       (base64_back key.public_key.octets are)
@@ -231,8 +227,7 @@ module _ (key : DnsKeyData) (small : key.flags < 2 ^ 16) (few : number key.publi
   pub keyless_text_back : length key.public_key.octets ≡ 0 → token_dnskey (dnskey_text key) ≡ Err (Missing PublicKey)
   keyless_text_back none =
       let empty : key.public_key.octets ≡ [] = nil_from_length key.public_key.octets none in
-      ap dnskey_in
-      (words_are ∙ ap (λ t. decimal key.flags ∷ codes "3" ∷ decimal (number key.public_key.algorithm) ∷ t)
+      ap dnskey_in (words_are ∙ ap (λ t. decimal key.flags ∷ codes "3" ∷ decimal (number key.public_key.algorithm) ∷ t)
       (ap (λ o. words (encode_of standard o)) empty ∙ no_text))
       ∙ dnskey_without_key (decimal key.flags) (decimal (number key.public_key.algorithm)) key.flags
       (number key.public_key.algorithm) flags_back algorithm_back

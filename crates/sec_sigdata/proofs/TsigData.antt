@@ -26,12 +26,12 @@ data_octets tsig =
 pub data_written : (canonical : _) (tsig : TsigData) → tsig.time < 2 ^ 48 → length tsig.mac < 2 ^ 16
     → length tsig.other < 2 ^ 16
     → fields_octets canonical tsig_row (tsig_values tsig) ≡ Ok (data_octets tsig)
-data_written canonical tsig time mac other =
-    rw (
-      lt-ltb tsig.time (2 ^ 48) time,
-      lt-ltb (length tsig.mac) (2 ^ 16) mac,
-      lt-ltb (length tsig.other) (2 ^ 16) other,
-    ) refl
+data_written canonical tsig time mac other = rw (
+  lt-ltb tsig.time (2 ^ 48) time,
+  lt-ltb (length tsig.mac)
+      (2 ^ 16) mac,
+  lt-ltb (length tsig.other) (2 ^ 16) other,
+) refl
 
 wire_some : (n : List (List ℕ)) (x : List ℕ) → 0 < length (wire n ++ x)
 wire_some [] x = omega arith
@@ -52,8 +52,8 @@ data_back tsig name time fudge mac oid error other =
 pub read_back : (tsig : TsigFields) → IsName (algorithm_name tsig.algorithm) → TsigFits tsig → tsig.fudge < 2 ^ 16
     → tsig.oid < 2 ^ 16 → optional_error_number tsig.error < 2 ^ 16
     → AreReadBack tsig_row (tsig_values (fields_data tsig))
-read_back tsig name fits fudge oid error =
-    data_back (fields_data tsig) name fits.time fudge fits.mac oid error fits.other
+read_back tsig name fits fudge oid error = data_back
+    (fields_data tsig) name fits.time fudge fits.mac oid error fits.other
 
 some_same : (x y : TsigData) → Some x ≡ Some y → x ≡ y
 some_same x y e = cc
@@ -65,8 +65,8 @@ pub tsig_equal : (x y : TsigFields) → TsigIsByNumber x → TsigIsByNumber y
     → tsig_values (fields_data x) ≡ tsig_values (fields_data y) → x ≡ y
 tsig_equal x y a b same =
     let equal : fields_data x ≡ fields_data y = data_equal (fields_data x) (fields_data y) same in
-    let algorithm : x.algorithm ≡ y.algorithm =
-    a.algorithm ∙ (ap (λ (t : TsigData). tsig_algorithm_named t.algorithm) equal ∙ sym b.algorithm) in
+    let algorithm : x.algorithm ≡ y.algorithm = a.algorithm
+    ∙ (ap (λ (t : TsigData). tsig_algorithm_named t.algorithm) equal ∙ sym b.algorithm) in
     let time : x.time ≡ y.time = ap (λ (t : TsigData). t.time) equal in
     let fudge : x.fudge ≡ y.fudge = ap (λ (t : TsigData). t.fudge) equal in
     let mac : x.mac ≡ y.mac = ap (λ (t : TsigData). t.mac) equal in
@@ -74,8 +74,7 @@ tsig_equal x y a b same =
     let error : x.error ≡ y.error = a.error ∙ (ap (λ (t : TsigData). optional_error t.error) equal ∙ sym b.error) in
     let other : x.other ≡ y.other = ap (λ (t : TsigData). t.other) equal in
     λ i. record {
-      algorithm =
-          algorithm i;
+      algorithm = algorithm i;
       time = time i;
       fudge = fudge i;
       mac = mac i;
@@ -85,6 +84,6 @@ tsig_equal x y a b same =
     }
 
 -- how many octets the data have
-pub data_length : (tsig : TsigData)
-    → length (data_octets tsig) ≡ length (wire tsig.algorithm) + 16 + length tsig.mac + length tsig.other
+pub data_length : (tsig : TsigData) → length (data_octets tsig)
+    ≡ length (wire tsig.algorithm) + 16 + length tsig.mac + length tsig.other
 data_length tsig = simp length-append (omega arith)

@@ -47,8 +47,8 @@ one_wire (l ∷ n) (k ∷ z) e =
 first_named : (a : TsigAlgorithm) (rest : List TsigAlgorithm) (n : List (List ℕ)) (b : Bool)
     → bytes_eq (wire (algorithm_name a)) (wire n) ≡ b → algorithm_name (algorithm_among rest n) ≡ n
     → algorithm_name (algorithm_among (a ∷ rest) n) ≡ n
-first_named a rest n true e named =
-    rw e (one_wire (algorithm_name a) n (let d = bytes_eq-Decides (wire (algorithm_name a)) (wire n) in d.0 e))
+first_named a rest n true e named = rw e (one_wire (algorithm_name a) n
+    (let d = bytes_eq-Decides (wire (algorithm_name a)) (wire n) in d.0 e))
 first_named a rest n false e named = rw e named
 
 -- the algorithm of a name has that name
@@ -74,8 +74,8 @@ no_hash algorithm hash none some = cc
 pub other_name : (algorithm : TsigAlgorithm) (hash : HmacHash)
     → algorithm ≡ tsig_algorithm_named (algorithm_name algorithm) → hash_of algorithm ≡ None
     → false ≡ bytes_eq (wire (algorithm_name (algorithm_with hash))) (wire (algorithm_name algorithm))
-other_name algorithm hash named none =
-    at (bytes_eq (wire (algorithm_name (algorithm_with hash))) (wire (algorithm_name algorithm))) refl
+other_name algorithm hash named none = at (bytes_eq (wire (algorithm_name (algorithm_with hash)))
+    (wire (algorithm_name algorithm))) refl
   where
     at : (b : Bool) → bytes_eq (wire (algorithm_name (algorithm_with hash))) (wire (algorithm_name algorithm)) ≡ b
         → false ≡ b

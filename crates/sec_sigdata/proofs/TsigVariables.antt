@@ -20,5 +20,5 @@ at_bits canonical owner tsig true true e f = rw (e, f) (simp (append_assoc, appe
 pub variables_written : (canonical : Bool) (owner : List (List ℕ)) (tsig : TsigData)
     → fields_octets canonical variables_row (variables_values (low owner) (low tsig.algorithm) tsig)
     ≡ written_variables owner tsig
-variables_written canonical owner tsig =
-    at_bits canonical owner tsig (nat_lt tsig.time (2 ^ 48)) (nat_lt (length tsig.other) (2 ^ 16)) refl refl
+variables_written canonical owner tsig = at_bits canonical owner tsig (nat_lt tsig.time (2 ^ 48))
+    (nat_lt (length tsig.other) (2 ^ 16)) refl refl

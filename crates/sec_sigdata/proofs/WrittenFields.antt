@@ -38,7 +38,11 @@ signatures_back sig fits =
             (
               fits.sig_expiration,
               refl,
-              (fits.sig_inception, refl, (fits.key_tag, refl, (fits.signer_name, refl, (tt, refl, tt)))),
+              (
+                fits.sig_inception,
+                refl,
+                (fits.key_tag, refl, (fits.signer_name, refl, (tt, refl, tt))),
+              ),
             ),
           ),
         ),
@@ -48,8 +52,7 @@ signatures_back sig fits =
 
 -- what is written of hash parameters
 hash_octets : HashData → List ℕ
-hash_octets hash =
-    to_be_bytes w8 (hash_number hash.hash_algorithm)
+hash_octets hash = to_be_bytes w8 (hash_number hash.hash_algorithm)
     ++ (to_be_bytes w8 (opt_out_flags hash.opt_out)
     ++ (to_be_bytes w16 hash.iterations ++ (with_count One hash.salt ++ [])))
 
@@ -80,8 +83,8 @@ parameters_back hash small short =
     ) in (
       hash_octets hash,
       written,
-      λ front back. written_row nsec3param_row refl (hash_values hash) (hash_octets hash) front back holds
-          (omega arith) written,
+      λ front back. written_row nsec3param_row refl (hash_values hash)
+          (hash_octets hash) front back holds (omega arith) written,
     )
 
 -- ---- NSEC and NSEC3
@@ -105,8 +108,8 @@ nsec3_octets : Nsec3Data → List ℕ
 nsec3_octets nsec3 =
     to_be_bytes w8 (hash_number nsec3.hash.hash_algorithm)
     ++ (to_be_bytes w8 (opt_out_flags nsec3.hash.opt_out)
-    ++ (to_be_bytes w16 nsec3.hash.iterations
-    ++ (with_count One nsec3.hash.salt ++ (with_count One nsec3.next_hashed_owner_name ++ (nsec3.types ++ [])))))
+    ++ (to_be_bytes w16 nsec3.hash.iterations ++ (with_count One nsec3.hash.salt
+    ++ (with_count One nsec3.next_hashed_owner_name ++ (nsec3.types ++ [])))))
 
 pub nsec3_back : (nsec3 : Nsec3Data) → nsec3.hash.iterations < 2 ^ 16 → length nsec3.hash.salt < 2 ^ 8
     → length nsec3.next_hashed_owner_name < 2 ^ 8 → IsTrue (is_bitmap nsec3.types)
@@ -128,15 +131,15 @@ nsec3_back nsec3 small short few bitmap =
     ) in (
       nsec3_octets nsec3,
       written,
-      λ front back. written_row nsec3_row refl (nsec3_values nsec3) (nsec3_octets nsec3) front back holds
-          (omega arith) written,
+      λ front back. written_row nsec3_row refl (nsec3_values nsec3)
+          (nsec3_octets nsec3) front back holds (omega arith) written,
     )
 
 -- ---- the signature behind its input
 
 joined_more : (r s t : Result (List ℕ) EmitError) → joined r (joined s t) ≡ joined (joined r s) t
-joined_more (Ok x) (Ok y) (Ok z) =
-    ap (λ (octets : List ℕ). let ok : Result (List ℕ) EmitError = Ok octets in ok) (sym (append_assoc x y z))
+joined_more (Ok x) (Ok y) (Ok z) = ap (λ (octets : List ℕ). let ok : Result (List ℕ) EmitError = Ok octets in ok)
+    (sym (append_assoc x y z))
 joined_more (Ok x) (Ok y) (Err e) = refl
 joined_more (Ok x) (Err e) t = refl
 joined_more (Err e) s t = refl

@@ -7,7 +7,7 @@ use Rattle.dns_wire.specs.declared.error.EmitError.{EmitError}
 use Rattle.dns_wire.specs.declared.error.EmitError.TheVariants.{TimeTooLarge, OtherTooLong}
 use Rattle.dns_wire.specs.Octets.{two_octets, four_octets, six_octets}
 use Rattle.dns_names.specs.Names.{wire, low}
-use Rattle.dns_names.specs.NameText.{bare_name_text}
+use Rattle.dns_names.specs.NameText.{name_text_without_dot}
 use Rattle.dns_types.specs.ClassNumbers as classes
 use Rattle.dns_grammar.specs.Fields.{Two, Four, Number, Time, Counted, Kept, Value, Num, Str, Named, Field, any}
 use Rattle.dns_grammar.specs.Messages.{TsigData, tsig_values}
@@ -92,7 +92,8 @@ pub record TsigFits (tsig : TsigFields) : Type 0 where
 -- algorithm, time, fudge and MAC
 unfoldable pub signed_text : TsigFields → List ℕ
 signed_text tsig =
-    bare_name_text (algorithm_name tsig.algorithm) ++ codes " " ++ decimal tsig.time ++ codes " " ++ decimal tsig.fudge
+    name_text_without_dot (algorithm_name tsig.algorithm) ++ codes " " ++ decimal tsig.time ++ codes " "
+    ++ decimal tsig.fudge
     ++ codes " " ++ lower_hex tsig.mac
 
 -- original ID, error number and other data

@@ -1,13 +1,13 @@
 //! The algorithms of TSIG records (RFC 8945 6).
 ghost use Rattle.std.specs.Prelude.{◌≡◌, ◌<◌, ◌≤◌, ◌↔◌, [], ◌∷◌, length, IsOk, Some, Ok};
-ghost use Rattle.dns_names.specs.NameText.{bare_name_text};
+ghost use Rattle.dns_names.specs.NameText.{name_text_without_dot};
 ghost use Rattle.dns_wire.specs.Reading.{octets, place, Reads, GivesUnless};
 ghost use Rattle.dns_names.specs.NameWriting.{name_octets};
 ghost use Rattle.sec_sigdata.specs.TsigAlgorithms.{algorithm_name, algorithm_among, tsig_algorithm_named, algorithm_at};
 ghost use Rattle.sec_sigdata.specs.TsigAlgorithms.{hash_of, supported, algorithm_with, mac_of, checked_mac};
 
 use crate::error::DnsSecError;
-use dns_names::{BareName, Label, Name};
+use dns_names::{Label, Name, NameWithoutDot};
 use dns_wire::{BinDecodable, BinDecoder, BinEncodable, BinEncoder, DecodeError, EmitError};
 use sec_digest::{Hmac, HmacHash};
 use std::alloc::Global;
@@ -243,9 +243,9 @@ impl<'r> BinDecodable<'r> for TsigAlgorithm {
 
 /// The name without its last dot; the root is one dot.
 impl fmt::Display for TsigAlgorithm {
-    ghost output = { λ a. Some (bare_name_text (algorithm_name a)) };
+    ghost output = { λ a. Some (name_text_without_dot (algorithm_name a)) };
 
     fn fmt<W: fmt::Write>(&self, f: &mut fmt::Formatter<W>) -> fmt::Result {
-        write!(f, "{}", BareName(&self.to_name()))
+        write!(f, "{}", NameWithoutDot(&self.to_name()))
     }
 }

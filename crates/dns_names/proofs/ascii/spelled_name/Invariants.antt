@@ -1,5 +1,5 @@
 use Rattle.std.proofs.Common.{length}
-use Rattle.dns_names.proofs.Spelled.{Spelling}
+use Rattle.dns_names.proofs.TextSteps.{Spelling}
 use Rattle.dns_names.proofs.ascii.spelled_name.Given as goal
 
 abbrev pub invariant-characters : goal.invariant-characters

@@ -1,4 +1,5 @@
-use Rattle.dns_wire.proofs.FieldLaws.{octets_stand, octets_read, number_stands, number_read, time_stands, time_read, counted_stands, counted_read}
+use Rattle.dns_wire.proofs.FieldLaws.{octets_stand, octets_read, number_stands, number_read, time_stands, time_read}
+use Rattle.dns_wire.proofs.FieldLaws.{counted_stands, counted_read}
 use Rattle.dns_wire.proofs.laws.fields_are_read_where_they_stand.Goals as goal
 
 pub returns-clause-octets : goal.returns-clause-octets

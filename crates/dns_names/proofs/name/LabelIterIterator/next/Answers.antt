@@ -6,7 +6,8 @@ pub invariant_of-self : goal.invariant_of-self
 invariant_of-self c = (takes_label c.self.inside.rest.now c.self.invariant c.if-len-eq0.false).rest
 
 pub returns-clause-steps : goal.returns-clause-steps
-returns-clause-steps c = sym c.self.view_is ∙ (takes_label c.self.inside.rest.now c.self.invariant c.if-len-eq0.false).labels
+returns-clause-steps c = sym c.self.view_is ∙ (takes_label c.self.inside.rest.now c.self.invariant
+    c.if-len-eq0.false).labels
 
 pub returns-clause-goes : goal.returns-clause-goes
 returns-clause-goes c =

@@ -6,4 +6,5 @@ use Rattle.dns_names.proofs.text.NameDisplay.fmt.Given as goal
 
 abbrev pub invariant-loop-label : goal.invariant-loop-label
 invariant-loop-label g l =
-    IsPlainFormatter l.initial.f → HasWritten g.W.Write.write_str_gives l.initial.f (flat_map label_text (map (λ label. label.now) l.yielded)) l.f
+    IsPlainFormatter l.initial.f → HasWritten g.W.Write.write_str_gives l.initial.f
+    (flat_map label_text (map (λ label. label.now) l.yielded)) l.f

@@ -8,5 +8,5 @@ use Rattle.sec_sigdata.proofs.type_list.TypesTextDisplay.fmt.Given as goal
 -- the types so far are written
 abbrev pub invariant-loop-rtype : goal.invariant-loop-rtype
 invariant-loop-rtype g l =
-    IsPlainFormatter l.initial.f
-    → HasWritten g.W.Write.write_str_gives l.initial.f (flat_map (λ t. codes " " ++ type_text t) l.yielded) l.f
+    IsPlainFormatter l.initial.f → HasWritten g.W.Write.write_str_gives l.initial.f
+    (flat_map (λ t. codes " " ++ type_text t) l.yielded) l.f

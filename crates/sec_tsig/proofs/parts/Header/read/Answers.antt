@@ -8,10 +8,10 @@ returns-clause-place c =
     omega (
       arith,
       c.new-reader.ensures.place,
-      number_end _ _ _ _ _ _ c.in_ok-id.ensures.exact,
-      number_end _ _ _ _ _ _ c.in_ok-flags.ensures.exact,
-      number_end _ _ _ _ _ _ c.in_ok-questions.ensures.exact,
-      number_end _ _ _ _ _ _ c.in_ok-answers.ensures.exact,
-      number_end _ _ _ _ _ _ c.in_ok-authorities.ensures.exact,
-      number_end _ _ _ _ _ _ c.in_ok-additionals.ensures.exact,
+      number_end _ _ _ _ _ _ c.in_ok-id.ensures.exact.0,
+      number_end _ _ _ _ _ _ c.in_ok-flags.ensures.exact.0,
+      number_end _ _ _ _ _ _ c.in_ok-questions.ensures.exact.0,
+      number_end _ _ _ _ _ _ c.in_ok-answers.ensures.exact.0,
+      number_end _ _ _ _ _ _ c.in_ok-authorities.ensures.exact.0,
+      number_end _ _ _ _ _ _ c.in_ok-additionals.ensures.exact.0,
     )
