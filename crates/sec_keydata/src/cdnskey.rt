@@ -1,4 +1,4 @@
-//! CDNSKEY records.
+//! CDNSKEY records: the public keys that a zone wants (RFC 7344 3.2, RFC 8078 4).
 ghost use Rattle.std.specs.Prelude.{◌≡◌, Some, IfOk};
 ghost use Rattle.std.specs.Option.{is_none, option_map};
 ghost use Rattle.dns_grammar.specs.Fields.{fields_octets};

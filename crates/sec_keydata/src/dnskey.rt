@@ -1,4 +1,4 @@
-//! DNSKEY records.
+//! DNSKEY records: the public keys of zones (RFC 4034 2).
 ghost use Rattle.std.specs.Prelude.{◌≡◌, Some, IfOk};
 ghost use Rattle.dns_grammar.specs.Fields.{fields_octets};
 ghost use Rattle.dns_grammar.specs.RowReaders.{ReadsRow};

@@ -24,8 +24,8 @@ ghost use Rattle.sec_keydata.specs.Tokens.{token_dnskey, token_ds};
 use crate::key_uses::{KeyTrust, KeyUsage, UpdateScope};
 use crate::protocol::Protocol;
 
-/// The limits.
-pub fn limits_are()
+/// How many octets a key has at most.
+pub fn longest_key()
     ensures { LONGEST_KEY ≡ 65531 }
 {}
 
@@ -77,7 +77,7 @@ pub fn protocol_numbers_are_kept()
 {}
 
 /// The defaults of trust, usage, scope and protocol.
-pub fn defaults_are()
+pub fn default_uses()
     ensures trust { (t : _) → ⟦<KeyTrust as Default>⟧.is_default t ↔ (t ≡ KeyTrust.AuthOrPrivate) }
     ensures usage { (u : _) → ⟦<KeyUsage as Default>⟧.is_default u ↔ (u ≡ KeyUsage.Entity) }
     ensures scope { (s : _) → ⟦<UpdateScope as Default>⟧.is_default s
