@@ -19,7 +19,8 @@ impl<'r> BinDecodable<'r> for Number {
     ghost use Rattle.std.specs.Int.{w16};
     ghost use Rattle.dns_wire.specs.Reading.{ReadsUnless, number_at};
 
-    ghost is_read = { λ old new result. ReadsUnless (λ number. number.0) result old new (number_at w16 (octets old) (place old) (length (octets old))) };
+    ghost is_read = { λ old new result. ReadsUnless (λ number. number.0) result old new
+        (number_at w16 (octets old) (place old) (length (octets old))) };
 
     fn read(_alloc: Global, decoder: &mut BinDecoder<'r>) -> Result<Self, DecodeError> {
         Ok(Number(decoder.read_u16()?))
@@ -31,7 +32,8 @@ impl<'r> RecordDataDecodable<'r> for Number {
     ghost use Rattle.std.specs.Int.{w16};
     ghost use Rattle.dns_wire.specs.Reading.{ReadsUnless, number_at};
 
-    ghost is_read = { λ length_given old new result. ReadsUnless (λ number. number.0) result old new (number_at w16 (octets old) (place old) (length (octets old))) };
+    ghost is_read = { λ length_given old new result. ReadsUnless (λ number. number.0) result old new
+        (number_at w16 (octets old) (place old) (length (octets old))) };
 
     fn read_data(
         _alloc: Global,
@@ -44,7 +46,8 @@ impl<'r> RecordDataDecodable<'r> for Number {
 
 /// The octets of a value, names in lower case.
 fn lowered_octets<T: BinEncodable>(alloc: Global, value: &T) -> Result<Vec<u8>, EmitError>
-    ensures { GivesUnless EmitError.OutOfMemory (λ octets. octets.items) result (T.written false NameEncoding.UncompressedLowercase value.now) }
+    ensures { GivesUnless EmitError.OutOfMemory (λ octets. octets.items) result
+        (T.written false NameEncoding.UncompressedLowercase value.now) }
 {
     let mut encoder = BinEncoder::new(alloc);
     encoder.set_name_encoding(NameEncoding::UncompressedLowercase);

@@ -1,5 +1,8 @@
 //! Names, numbers and codes against the RFCs' examples and values written by hand from the rules.
-use dns_names::{Label, Name};
+ghost use Rattle.std.specs.Prelude.{◌≤◌, length};
+ghost use Rattle.dns_names.specs.Jumps.{AreJumps};
+
+use dns_names::{Label, Name, with_jumps};
 use dns_types::{DNSClass, RecordType};
 use dns_wire::{
     BinDecoder, BinEncodable, BinEncoder, DecodeError, NameEncoding, NameError, Octets,
@@ -81,6 +84,46 @@ fn reads_names_within_bounds(rt: HostRuntime) -> Result<(), Fail> {
             _ => assert!(rt; false, "at {place}"),
         }
     }
+    Ok(())
+}
+
+/// Skips the first name at `place`, and reads the one behind it.
+fn second_name(
+    message: &[u8],
+    place: usize,
+    jumps: &mut [u16],
+) -> Result<(Name, usize), DecodeError>
+    requires at { place ≤ length message.now }
+    requires jumps { AreJumps message.now jumps.old }
+{
+    let mut decoder = BinDecoder::new(message);
+    decoder.set_index(place);
+    let end = message.len();
+    Name::skip_with(&mut decoder, end, jumps)?;
+    let name = Name::read_with(&mut decoder, end, jumps)?;
+    Ok((name, decoder.index()))
+}
+
+#[test]
+fn goes_through_a_chain_of_pointers_once(rt: HostRuntime) -> Result<(), Fail> {
+    // `a` at 0 and three pointers, each to the one before; then `b.a` twice, each by the last pointer
+    let mut octets = [0u8; 513];
+    octets[..9].copy_from_slice(b"\x01a\x00\xc0\x00\xc0\x03\xc0\x05");
+    octets[9..17].copy_from_slice(b"\x01b\xc0\x07\x01b\xc0\x07");
+    // a message with a small table, and one with a large table
+    for message in [&octets[..17], &octets[..]] {
+        let (name, next) = with_jumps(message, |jumps| second_name(message, 9, jumps))?;
+        assert!(rt; name == Name::from_ascii("b.a")?);
+        assert_eq!(rt; next, 17);
+    }
+    // the second name is cut off, and the first pointer leads to itself
+    let cut = with_jumps(&octets[..16], |jumps| {
+        second_name(&octets[..16], 9, jumps)
+    });
+    assert!(rt; matches!(cut, Err(DecodeError::InsufficientBytes)));
+    octets[4] = 3;
+    let forward = with_jumps(&octets, |jumps| second_name(&octets, 9, jumps));
+    assert!(rt; matches!(forward, Err(DecodeError::NameMalformed)));
     Ok(())
 }
 
