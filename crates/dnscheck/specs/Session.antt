@@ -1,12 +1,14 @@
 -- The text and the status of a session.
-use Rattle.std.specs.Prelude.{◌≡◌, ℕ, ◌<◌, ◌≤◌, List, [], ◌∷◌, ◌++◌, length, codes, map, if◌then◌else◌, Option, Result, Ok, Err, is_ok}
+use Rattle.std.specs.Prelude.{◌≡◌, ℕ, ◌<◌, ◌≤◌, List, [], ◌∷◌, ◌++◌, length, codes, map, if◌then◌else◌, Option, Result}
+use Rattle.std.specs.Prelude.{Ok, Err, is_ok}
 use Rattle.std.specs.declared.alloc.Global.{Global}
 use Rattle.std.specs.List.{flat_map, list_all, enumerate_from}
 use Rattle.std.specs.String.{string_bytes}
 use Rattle.std.specs.declared.string.String.{String}
 use Rattle.std.specs.Io.KnownBytes.{Appends, Consumes, IsAtEnd}
 use Rattle.dns_io.specs.declared.status.Status.{Status}
-use Rattle.dns_io.specs.declared.status.Status.TheVariants.{Usage, ReadFault, TooLong, OutOfMemory, WriteFault, ScriptFault, Refused, Accepted}
+use Rattle.dns_io.specs.declared.status.Status.TheVariants.{Usage, ReadFault, TooLong, OutOfMemory, WriteFault}
+use Rattle.dns_io.specs.declared.status.Status.TheVariants.{ScriptFault, Refused, Accepted}
 use Rattle.dns_io.specs.declared.transfer.TheConstants.{INPUT_LIMIT}
 use Rattle.dns_io.specs.Transfer.{AppendsPrefix}
 use Rattle.sec_tsig.specs.declared.first_set.FirstSet.{FirstSet}
@@ -52,7 +54,8 @@ IsCheck [] = ⊥
 IsCheck (word ∷ []) = string_bytes word ≡ codes "check"
 IsCheck (word ∷ other ∷ words) = ⊥
 
--- Octets within the limit come to their session's status, and others to `TooLong`. The command's words, the outside and want of memory come before that.
+-- Octets within the limit come to their session's status, and others to `TooLong`. The command's words, the outside and
+-- want of memory come before that.
 abbrev pub IsStatusFor : Status → List ℕ → Type 0
 IsStatusFor Usage octets = Unit {0}
 IsStatusFor ReadFault octets = Unit {0}
@@ -97,9 +100,10 @@ AppendsText Refused old new text = Appends old new text
 AppendsText Accepted old new text = Appends old new text
 
 -- Octets were consumed, to the end, that come to the status, and their session's text was appended.
-pub record SessionWritten (status : Status) (left_before left_after held_before held_after : Option (List ℕ)) : Type 0 where
-  pub octets : List ℕ
-  pub consumed : Consumes left_before left_after octets
-  pub at_end : IsAtEnd left_after
-  pub comes_to : IsStatusFor status octets
-  pub appended : AppendsText status held_before held_after (session octets)
+pub record SessionWritten (status : Status) (left_before left_after held_before held_after : Option (List ℕ)) : Type 0
+  where
+    pub octets : List ℕ
+    pub consumed : Consumes left_before left_after octets
+    pub at_end : IsAtEnd left_after
+    pub comes_to : IsStatusFor status octets
+    pub appended : AppendsText status held_before held_after (session octets)

@@ -32,7 +32,8 @@ section_word section = if section == 0 then codes "an" else if section == 1 then
 
 -- a set of an answer: section, owner, class, type and mark, which is the same for each set as yet
 abbrev pub set_text : FirstSet → List ℕ
-set_text set = section_word set.section ++ codes " " ++ name_text set.owner ++ codes " " ++ class_text set.dns_class ++ codes " " ++ type_text set.rtype ++ codes " Indeterminate\n"
+set_text set = section_word set.section ++ codes " " ++ name_text set.owner ++ codes " " ++ class_text set.dns_class
+    ++ codes " " ++ type_text set.rtype ++ codes " Indeterminate\n"
 
 abbrev pub fault_text : List ℕ
 fault_text = codes "fault\n"

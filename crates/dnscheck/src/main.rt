@@ -1,5 +1,5 @@
-//! The program `dnscheck`: it reads a script with a key, a request and a signed answer, signs the request and checks the
-//! answer.
+//! The program `dnscheck`: it reads a script with a key, a request and a signed answer, signs the request and checks
+//! the answer.
 #![tactic(auto)]
 
 mod command_line;

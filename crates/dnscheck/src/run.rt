@@ -2,7 +2,8 @@
 
 ghost use Rattle.std.specs.Prelude.{◌≡◌, ◌≤◌, ◌+◌, ◌↔◌, IsTrue, IfSome};
 ghost use Rattle.dns_io.specs.Counts.{raised, Rose, RoseBy};
-ghost use Rattle.dnscheck.specs.Session.{IsCheck, IsStatusFor, WritesNothing, WritesText, AppendsText, SessionWritten, session};
+ghost use Rattle.dnscheck.specs.Session.{IsCheck, IsStatusFor, WritesNothing, WritesText, AppendsText, SessionWritten};
+ghost use Rattle.dnscheck.specs.Session.{session};
 
 use crate::session::session;
 use dns_io::{INPUT_LIMIT, ReadError, Sink, Source, Status, read_all, write_all};

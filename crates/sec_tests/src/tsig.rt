@@ -2,9 +2,9 @@
 //!
 //! The key is twenty octets 0b, its name `k.`, the fudge 300.
 
-use sec_tsig::{FirstError, FirstSignError, FirstSigner, FirstVerifier};
 use dns_names::Name;
 use dns_types::{DNSClass, RecordType};
+use sec_tsig::{FirstError, FirstSignError, FirstSigner, FirstVerifier};
 use std::alloc::Global;
 use std::test::Fail;
 

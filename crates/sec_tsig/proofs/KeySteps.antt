@@ -28,7 +28,8 @@ key_ties x y =
     ∙ and_same _ _ _ _ (sym (unsigned_ties x.section y.section))
     (both_equal _ _
     ∙ and_same _ _ _ _ (sym (same_ties x.owner y.owner))
-    (both_equal _ _ ∙ and_same _ _ _ _ (sym (unsigned_ties x.dns_class y.dns_class)) (sym (unsigned_ties x.rtype y.rtype))))
+    (both_equal _ _ ∙ and_same _ _ _ _ (sym (unsigned_ties x.dns_class y.dns_class))
+    (sym (unsigned_ties x.rtype y.rtype))))
 
 same_equiv : IsEquivalence same
 same_equiv = on_equiv low (lists_equiv (lists_equiv nat_eq_equiv))
@@ -36,7 +37,9 @@ same_equiv = on_equiv low (lists_equiv (lists_equiv nat_eq_equiv))
 pub same_set_equiv : IsEquivalence same_set
 same_set_equiv =
     and_equiv (on_equiv (λ (x : FirstSet). x.section) nat_eq_equiv)
-    (and_equiv (on_equiv (λ (x : FirstSet). x.owner) same_equiv) (and_equiv (on_equiv (λ (x : FirstSet). x.dns_class) nat_eq_equiv) (on_equiv (λ (x : FirstSet). x.rtype) nat_eq_equiv)))
+    (and_equiv (on_equiv (λ (x : FirstSet). x.owner) same_equiv)
+    (and_equiv (on_equiv (λ (x : FirstSet). x.dns_class) nat_eq_equiv)
+    (on_equiv (λ (x : FirstSet). x.rtype) nat_eq_equiv)))
 
 -- what a test's negation says of the test
 not_back : (b c : Bool) → not b ≡ c → b ≡ not c
@@ -52,27 +55,36 @@ or_false true = refl
 or_false false = refl
 
 -- what is known before and after the key of k is put in
-module _ (k : FirstSet) (key : RrsetKey) (is_key : key ≡ key_of k) (sets : List FirstSet) (old new : BTreeSet RrsetKey) (added : Bool) (is_new : added ≡ not (contains key_cmp old key))
-    (puts : (q : RrsetKey) → contains key_cmp new q ≡ cond (is_eq (key_cmp key q)) true (contains key_cmp old q)) (knows : Knows sets old) where
+module _ (k : FirstSet) (key : RrsetKey) (is_key : key ≡ key_of k) (sets : List FirstSet) (old new : BTreeSet RrsetKey)
+    (added : Bool) (is_new : added ≡ not (contains key_cmp old key))
+    (puts : (q : RrsetKey) → contains key_cmp new q ≡ cond (is_eq (key_cmp key q)) true (contains key_cmp old q))
+    (knows : Knows sets old) where
   has : (q : FirstSet) → contains key_cmp new (key_of q) ≡ cond (same_set k q) true (list_any (same_set q) sets)
   has q =
       puts (key_of q)
       ∙ ap (λ (j : RrsetKey). cond (is_eq (key_cmp j (key_of q))) true (contains key_cmp old (key_of q))) is_key
-      ∙ ap (λ (b : Bool). cond b true (contains key_cmp old (key_of q))) (key_ties k q) ∙ ap (λ (b : Bool). cond (same_set k q) true b) (knows.all q)
+      ∙ ap (λ (b : Bool). cond b true (contains key_cmp old (key_of q))) (key_ties k q)
+      ∙ ap (λ (b : Bool). cond (same_set k q) true b) (knows.all q)
 
   -- whether the set was there
   pub was_there : (b : Bool) → added ≡ b → list_any (same_set k) sets ≡ not b
-  was_there b h = sym (knows.all k) ∙ not_back (contains key_cmp old (key_of k)) b (ap (λ (j : RrsetKey). not (contains key_cmp old j)) (sym is_key) ∙ sym is_new ∙ h)
+  was_there b h = sym (knows.all k) ∙ not_back (contains key_cmp old (key_of k)) b
+      (ap (λ (j : RrsetKey). not (contains key_cmp old j)) (sym is_key) ∙ sym is_new ∙ h)
 
-  any_push : (q : FirstSet) (b : Bool) → same_set q k ≡ b → list_any (same_set q) (sets ++ k ∷ []) ≡ (list_any (same_set q) sets || b)
-  any_push q b e = list_any-append (same_set q) sets (k ∷ []) ∙ ap (λ (b : Bool). list_any (same_set q) sets || b) (or_false (same_set q k) ∙ e)
+  any_push : (q : FirstSet) (b : Bool) → same_set q k ≡ b
+      → list_any (same_set q) (sets ++ k ∷ []) ≡ (list_any (same_set q) sets || b)
+  any_push q b e = list_any-append (same_set q) sets (k ∷ [])
+      ∙ ap (λ (b : Bool). list_any (same_set q) sets || b) (or_false (same_set q k) ∙ e)
 
   pub knows_new : Knows (sets ++ k ∷ []) new
   knows_new = record { all = λ q. has q ∙ at_end q (same_set k q) refl }
     where
-      at_end : (q : FirstSet) (b : Bool) → same_set k q ≡ b → cond (same_set k q) true (list_any (same_set q) sets) ≡ list_any (same_set q) (sets ++ k ∷ [])
-      at_end q true h = rw h (sym (any_push q true (same_set_equiv.symm q k ∙ h) ∙ or_true (list_any (same_set q) sets)))
-      at_end q false h = rw h (sym (any_push q false (same_set_equiv.symm q k ∙ h) ∙ or_false (list_any (same_set q) sets)))
+      at_end : (q : FirstSet) (b : Bool) → same_set k q ≡ b
+          → cond (same_set k q) true (list_any (same_set q) sets) ≡ list_any (same_set q) (sets ++ k ∷ [])
+      at_end q true h = rw h (sym (any_push q true (same_set_equiv.symm q k ∙ h)
+          ∙ or_true (list_any (same_set q) sets)))
+      at_end q false h = rw h (sym (any_push q false (same_set_equiv.symm q k ∙ h)
+          ∙ or_false (list_any (same_set q) sets)))
 
 -- ---- the list with one more set
 
@@ -83,5 +95,6 @@ listed_known k sets known = at (forms_rrset k.rtype)
     at true = rw known refl
     at false = refl
 
-pub listed_new : (k : FirstSet) (sets : List FirstSet) → forms_rrset k.rtype ≡ true → list_any (same_set k) sets ≡ false → sets ++ k ∷ [] ≡ with_set sets k
+pub listed_new : (k : FirstSet) (sets : List FirstSet) → forms_rrset k.rtype ≡ true → list_any (same_set k) sets ≡ false
+    → sets ++ k ∷ [] ≡ with_set sets k
 listed_new k sets listed new = rw (listed, new) refl

@@ -1,5 +1,6 @@
 -- What the walks over a message's records give: the types of its records, and its sets.
-use Rattle.std.proofs.Common.{◌≡◌, ℕ, zero, suc, ◌+◌, ◌≤◌, Bool, true, false, ◌&&◌, cond, eqb, leb, ltb, List, [], ◌∷◌, ◌++◌, length, map, Option, Some, None, Result, Ok, Err}
+use Rattle.std.proofs.Common.{◌≡◌, ℕ, zero, suc, ◌+◌, ◌≤◌, Bool, true, false, ◌&&◌, cond, eqb, leb, ltb, List, [], ◌∷◌}
+use Rattle.std.proofs.Common.{◌++◌, length, map, Option, Some, None, Result, Ok, Err}
 use Rattle.std.proofs.Common.{refl, sym, ap, subst, ◌∙◌, append_assoc, append-nil, arith}
 use Rattle.std.specs.List.{filter, fold, list_all}
 use Rattle.std.specs.Prelude.{IfOk, IsOk}
@@ -11,15 +12,18 @@ use Rattle.dns_wire.specs.Reading.{◌>>=◌, each_at, octets_at}
 use Rattle.dns_types.specs.TypeSets.{is_one_of}
 use Rattle.dns_grammar.specs.Fields.{Table, Value}
 use Rattle.dns_grammar.specs.RecordData.{RDataAt, rdata_at}
-use Rattle.dns_grammar.specs.Messages.{Header, Message, RecordHead, ResourceRecord, records, with_data, placed, head_at, header_at}
-use Rattle.dns_grammar.specs.Messages.{queries_at, record_at, records_at, additionals_at, body_at, sized_header_at, message_at}
+use Rattle.dns_grammar.specs.Messages.{Header, Message, RecordHead, ResourceRecord, records, with_data, placed, head_at}
+use Rattle.dns_grammar.specs.Messages.{header_at}
+use Rattle.dns_grammar.specs.Messages.{queries_at, record_at, records_at, additionals_at, body_at, sized_header_at}
+use Rattle.dns_grammar.specs.Messages.{message_at}
 use Rattle.dns_wire.proofs.FieldLaws.{bind_ok, is_ok_same}
 use Rattle.dns_grammar.proofs.Steps.{chosen}
 use Rattle.dns_grammar.proofs.DataLaws.{rdata_stands}
 use Rattle.dns_grammar.proofs.HeadLaws.{head_stands}
 use Rattle.sec_tsig.specs.declared.first_set.FirstSet.{FirstSet}
 use Rattle.sec_tsig.specs.FirstMessages.{has_only}
-use Rattle.sec_tsig.specs.RecordSets.{firsts, forms_rrset, listed, message_sets, same_set, set_of, sets_given, with_new, with_set}
+use Rattle.sec_tsig.specs.RecordSets.{firsts, forms_rrset, listed, message_sets, same_set, set_of, sets_given, with_new}
+use Rattle.sec_tsig.specs.RecordSets.{with_set}
 use Rattle.sec_tsig.specs.RecordWalks.{walk_at, seen, type_at, types_pass_at, set_of_head, sets_at}
 use Rattle.sec_tsig.proofs.Firsts.{firsts-push}
 use Rattle.sec_tsig.proofs.KeySteps.{same_set_equiv}
@@ -33,16 +37,20 @@ record IsWalked (m : List ℕ) (p : ℕ) (rr : ResourceRecord) (q : ℕ) : Type 
   pub is : walk_at m p ≡ Ok (head, q)
   pub same : with_data head rdata ≡ rr
 
-walk_from : (m : List ℕ) (p : ℕ) (head : RecordHead) (q : ℕ) → head_at m p ≡ Ok (head, q) → q + head.data_length ≤ length m
+walk_from : (m : List ℕ) (p : ℕ) (head : RecordHead) (q : ℕ) → head_at m p ≡ Ok (head, q)
+    → q + head.data_length ≤ length m
     → walk_at m p ≡ Ok (head, q + head.data_length)
 unfolding walk_at octets_at
-walk_from m p head q h fits = let inside : leb (q + head.data_length) (length m) ≡ true = le-leb (q + head.data_length) (length m) fits in rw (h, inside) refl
+walk_from m p head q h fits = let inside : leb (q + head.data_length) (length m)
+    ≡ true = le-leb (q + head.data_length) (length m) fits in rw (h, inside) refl
 
-data_inside : (table : Table) (m : List ℕ) (p len rtype : ℕ) (values : Option (List Value)) → p ≤ length m → RDataAt table m p len rtype values → p + len ≤ length m
+data_inside : (table : Table) (m : List ℕ) (p len rtype : ℕ) (values : Option (List Value)) → p ≤ length m
+    → RDataAt table m p len rtype values → p + len ≤ length m
 data_inside table m p len rtype (Some values) inside at = at.within
 data_inside table m p len rtype None inside at = omega (arith, at.empty, inside)
 
-is_walked : (table : Table) (is_last : Bool) (m : List ℕ) (p : ℕ) (rr : ResourceRecord) (q : ℕ) → record_at table is_last m p ≡ Ok (rr, q) → IsWalked m p rr q
+is_walked : (table : Table) (is_last : Bool) (m : List ℕ) (p : ℕ) (rr : ResourceRecord) (q : ℕ)
+    → record_at table is_last m p ≡ Ok (rr, q) → IsWalked m p rr q
 unfolding record_at
 is_walked table is_last m p rr q h =
     let head = bind_ok (head_at m p) _ (rr, q) h in
@@ -56,44 +64,60 @@ is_walked table is_last m p rr q h =
     record {
       head = head.0.0;
       rdata = body.0.0;
-      is = walk_from m p head.0.0 head.0.1 head.1 (data_inside table m head.0.1 head.0.0.data_length head.0.0.rtype body.0.0 inside stands.0)
+      is = walk_from m p head.0.0 head.0.1 head.1 (data_inside table m head.0.1 head.0.0.data_length head.0.0.rtype
+          body.0.0 inside stands.0)
           ∙ ap (λ (k : ℕ). Ok (head.0.0, k)) end;
       same = ap (λ (y : ResourceRecord × ℕ). y.0) same;
     }
 
 -- what is seen of a record by its head alone
-module _ {X : Type 0} (of : ResourceRecord → X) (view : RecordHead → X) (by_head : (head : RecordHead) (rdata : Option (List Value)) → of (with_data head rdata) ≡ view head) (m : List ℕ) where
-  one : (table : Table) (is_last : Bool) (p : ℕ) (rr : ResourceRecord) (q : ℕ) → record_at table is_last m p ≡ Ok (rr, q)
+module _ {X : Type 0} (of : ResourceRecord → X) (view : RecordHead
+    → X) (by_head : (head : RecordHead) (rdata : Option (List Value))
+    → of (with_data head rdata) ≡ view head) (m : List ℕ) where
+  one : (table : Table) (is_last : Bool) (p : ℕ) (rr : ResourceRecord) (q : ℕ)
+      → record_at table is_last m p ≡ Ok (rr, q)
       → seen view (walk_at m p) ≡ Ok (of rr, q)
   one table is_last p rr q h =
       let w = is_walked table is_last m p rr q h in
-      ap (seen view) w.is ∙ ap (λ (x : X). let ok : Result (X × ℕ) DecodeError = Ok (x, q) in ok) (sym (by_head w.head w.rdata) ∙ ap of w.same)
+      ap (seen view) w.is ∙ ap (λ (x : X). let ok : Result (X × ℕ) DecodeError = Ok (x, q) in ok)
+      (sym (by_head w.head w.rdata) ∙ ap of w.same)
 
   abbrev each_seen : ℕ → ℕ → Result (List X × ℕ) DecodeError
   each_seen n p = each_at (λ k. seen view (walk_at m k)) n p
 
-  pub records_seen : (table : Table) (n p : ℕ) (rrs : List ResourceRecord) (q : ℕ) → records_at table n m p ≡ Ok (rrs, q) → each_seen n p ≡ Ok (map of rrs, q)
+  pub records_seen : (table : Table) (n p : ℕ) (rrs : List ResourceRecord) (q : ℕ)
+      → records_at table n m p ≡ Ok (rrs, q) → each_seen n p ≡ Ok (map of rrs, q)
   unfolding each_at
-  records_seen table zero p rrs q h = ap (λ (y : List ResourceRecord × ℕ). Ok (map of y.0, y.1)) (is_ok_same ([], p) (rrs, q) h)
+  records_seen table zero p rrs q h = ap (λ (y : List ResourceRecord × ℕ). Ok (map of y.0, y.1))
+      (is_ok_same ([], p) (rrs, q) h)
   records_seen table (suc n) p rrs q h =
       let first = bind_ok (record_at table false m p) _ (rrs, q) h in
       let rest = bind_ok (records_at table n m first.0.1) _ (rrs, q) first.2 in
       rw (one table false p first.0.0 first.0.1 first.1, records_seen table n first.0.1 rest.0.0 rest.0.1 rest.1)
-      (ap (λ (y : List ResourceRecord × ℕ). Ok (map of y.0, y.1)) (is_ok_same (first.0.0 ∷ rest.0.0, rest.0.1) (rrs, q) rest.2))
+      (ap (λ (y : List ResourceRecord × ℕ). Ok (map of y.0, y.1))
+      (is_ok_same (first.0.0 ∷ rest.0.0, rest.0.1) (rrs, q) rest.2))
 
-  pub additionals_seen : (table : Table) (n p : ℕ) (rrs : List ResourceRecord) (q : ℕ) → additionals_at table n m p ≡ Ok (rrs, q) → each_seen n p ≡ Ok (map of rrs, q)
+  pub additionals_seen : (table : Table) (n p : ℕ) (rrs : List ResourceRecord) (q : ℕ)
+      → additionals_at table n m p ≡ Ok (rrs, q) → each_seen n p ≡ Ok (map of rrs, q)
   unfolding each_at additionals_at
-  additionals_seen table zero p rrs q h = ap (λ (y : List ResourceRecord × ℕ). Ok (map of y.0, y.1)) (is_ok_same ([], p) (rrs, q) h)
+  additionals_seen table zero p rrs q h = ap (λ (y : List ResourceRecord × ℕ). Ok (map of y.0, y.1))
+      (is_ok_same ([], p) (rrs, q) h)
   additionals_seen table (suc n) p rrs q h =
       let first = bind_ok (record_at table (eqb n 0) m p) _ (rrs, q) h in
       let rest = bind_ok (additionals_at table n m first.0.1) _ (rrs, q) first.2 in
-      rw (one table (eqb n 0) p first.0.0 first.0.1 first.1, additionals_seen table n first.0.1 rest.0.0 rest.0.1 rest.1)
-      (ap (λ (y : List ResourceRecord × ℕ). Ok (map of y.0, y.1)) (is_ok_same (first.0.0 ∷ rest.0.0, rest.0.1) (rrs, q) rest.2))
+      rw (
+        one table (eqb n 0) p first.0.0 first.0.1 first.1,
+        additionals_seen table n first.0.1 rest.0.0 rest.0.1
+            rest.1,
+      )
+      (ap (λ (y : List ResourceRecord × ℕ). Ok (map of y.0, y.1))
+      (is_ok_same (first.0.0 ∷ rest.0.0, rest.0.1) (rrs, q) rest.2))
 
 -- ---- the types of a message's records
 
 -- values read in two parts
-each-append : {A : Type 0} (read : ℕ → Result (A × ℕ) DecodeError) (a b p : ℕ) (xs : List A) (q : ℕ) (ys : List A) (r : ℕ)
+each-append : {A : Type 0} (read : ℕ → Result (A × ℕ) DecodeError) (a b p : ℕ) (xs : List A) (q : ℕ) (ys : List A)
+    (r : ℕ)
     → each_at read a p ≡ Ok (xs, q) → each_at read b q ≡ Ok (ys, r) → each_at read (a + b) p ≡ Ok (xs ++ ys, r)
 unfolding each_at
 each-append {A} read zero b p xs q ys r first second =
@@ -101,7 +125,8 @@ each-append {A} read zero b p xs q ys r first second =
     let none : b ≡ 0 + b = omega arith in
     let here : q ≡ p = ap (λ (y : List A × ℕ). y.1) (sym same) in
     ap (λ (k : ℕ). each_at read k p) (sym none) ∙ ap (λ (k : ℕ). each_at read b k) (sym here) ∙ second
-    ∙ ap (λ (l : List A). let ok : Result (List A × ℕ) DecodeError = Ok (l ++ ys, r) in ok) (ap (λ (y : List A × ℕ). y.0) same)
+    ∙ ap (λ (l : List A). let ok : Result (List A × ℕ) DecodeError = Ok (l ++ ys, r) in ok)
+    (ap (λ (y : List A × ℕ). y.0) same)
 each-append {A} read (suc a) b p xs q ys r first second =
     let one = bind_ok (read p) _ (xs, q) first in
     let rest = bind_ok (each_at read a one.0.1) _ (xs, q) one.2 in
@@ -116,7 +141,8 @@ each-append {A} read (suc a) b p xs q ys r first second =
     before : A → Result (List A × ℕ) DecodeError → Result (List A × ℕ) DecodeError
     before x rest = rest >>= λ xs. Ok (x ∷ xs.0, xs.1)
 
-list_all-map : {A : Type 0} (test : ℕ → Bool) (f : A → ℕ) (xs : List A) → list_all test (map f xs) ≡ list_all (λ x. test (f x)) xs
+list_all-map : {A : Type 0} (test : ℕ → Bool) (f : A → ℕ) (xs : List A)
+    → list_all test (map f xs) ≡ list_all (λ x. test (f x)) xs
 list_all-map test f [] = refl
 list_all-map test f (x ∷ xs) = ap (λ (b : Bool). test (f x) && b) (list_all-map test f xs)
 
@@ -130,7 +156,8 @@ record IsRead (table : Table) (m : List ℕ) (message : Message) : Type 0 where
   pub header : header_at m ≡ Ok (message.header, header_end)
   pub queries : queries_at message.header.questions m header_end ≡ Ok (message.queries, queries_end)
   pub answers : records_at table message.header.answers m queries_end ≡ Ok (message.answers, answers_end)
-  pub authorities : records_at table message.header.authorities m answers_end ≡ Ok (message.authorities, authorities_end)
+  pub authorities : records_at table message.header.authorities m answers_end
+      ≡ Ok (message.authorities, authorities_end)
   pub additionals : additionals_at table message.header.additionals m authorities_end ≡ Ok (message.additionals, end)
 
 is_read : (table : Table) (m : List ℕ) (x : Message × ℕ) → message_at table m ≡ Ok x → IsRead table m x.0
@@ -142,7 +169,14 @@ is_read table m x h =
     let answers = bind_ok (records_at table header.0.0.answers m queries.0.1) _ x queries.2 in
     let authorities = bind_ok (records_at table header.0.0.authorities m answers.0.1) _ x answers.2 in
     let additionals = bind_ok (additionals_at table header.0.0.additionals m authorities.0.1) _ x authorities.2 in
-    let message : Message = record { header = header.0.0; queries = queries.0.0; answers = answers.0.0; authorities = authorities.0.0; additionals = additionals.0.0 } in
+    let message : Message = record {
+      header = header.0.0;
+      queries = queries.0.0;
+      answers = answers.0.0;
+      authorities =
+          authorities.0.0;
+      additionals = additionals.0.0;
+    } in
     let is : IsRead table m message =
     record {
       header_end = header.0.1;
@@ -165,13 +199,18 @@ types_are table m allowed message is =
     let h : Header = message.header in
     let of : ResourceRecord → ℕ = λ rr. rr.rtype in
     let view : RecordHead → ℕ = λ head. head.rtype in
-    let a = records_seen of view (λ head rdata. refl) m table h.answers is.queries_end message.answers is.answers_end is.answers in
-    let n = records_seen of view (λ head rdata. refl) m table h.authorities is.answers_end message.authorities is.authorities_end is.authorities in
-    let d = additionals_seen of view (λ head rdata. refl) m table h.additionals is.authorities_end message.additionals is.end is.additionals in
+    let a = records_seen of view (λ head rdata. refl) m table h.answers is.queries_end message.answers is.answers_end
+    is.answers in
+    let n = records_seen of view (λ head rdata. refl) m table h.authorities is.answers_end message.authorities
+    is.authorities_end is.authorities in
+    let d = additionals_seen of view (λ head rdata. refl) m table h.additionals is.authorities_end message.additionals
+    is.end is.additionals in
     let an = each-append (type_at m) h.answers h.authorities is.queries_end _ is.answers_end _ is.authorities_end a n in
-    let all = each-append (type_at m) (h.answers + h.authorities) h.additionals is.queries_end _ is.authorities_end _ is.end an d in
+    let all = each-append (type_at m) (h.answers + h.authorities) h.additionals is.queries_end _ is.authorities_end _
+    is.end an d in
     let test : ℕ → Bool = is_one_of allowed in
-    let types : (map of message.answers ++ map of message.authorities) ++ map of message.additionals ≡ map of (records message) =
+    let types : (map of message.answers ++ map of message.authorities) ++ map of message.additionals
+    ≡ map of (records message) =
     append_assoc (map of message.answers) (map of message.authorities) (map of message.additionals)
     ∙ ap (λ l. map of message.answers ++ l) (sym (map-append of message.authorities message.additionals))
     ∙ sym (map-append of message.answers (message.authorities ++ message.additionals)) in
@@ -179,45 +218,57 @@ types_are table m allowed message is =
     ∙ ap (λ (b : Bool). let ok : Result Bool DecodeError = Ok b in ok) (list_all-map test of (records message)))
 
 -- what the walk over types gives, where it goes over a message
-pub only_types : (table : Table) (m : List ℕ) (allowed : List ℕ) (pass : Bool) → types_pass_at (is_one_of allowed) m ≡ Ok pass
+pub only_types : (table : Table) (m : List ℕ) (allowed : List ℕ) (pass : Bool)
+    → types_pass_at (is_one_of allowed) m ≡ Ok pass
     → IfOk (message_at table m) (λ x. pass ≡ has_only allowed x.0)
 only_types table m allowed pass walked = go (message_at table m) refl
   where
     ok_same : (a b : Bool) → ◌≡◌ {A = Result Bool DecodeError} (Ok a) (Ok b) → a ≡ b
     ok_same a b e = cc
 
-    go : (read : Result (Message × ℕ) DecodeError) → message_at table m ≡ read → IfOk read (λ x. pass ≡ has_only allowed x.0)
+    go : (read : Result (Message × ℕ) DecodeError) → message_at table m ≡ read
+        → IfOk read (λ x. pass ≡ has_only allowed x.0)
     go (Ok x) h = ok_same pass _ (sym walked ∙ types_are table m allowed x.0 (is_read table m x h))
     go (Err e) h = tt
 
 -- a walk that fails goes over no message
-pub no_types : (table : Table) (m : List ℕ) (allowed : List ℕ) (pass : Bool) (fault : DecodeError) → types_pass_at (is_one_of allowed) m ≡ Err fault
+pub no_types : (table : Table) (m : List ℕ) (allowed : List ℕ) (pass : Bool) (fault : DecodeError)
+    → types_pass_at (is_one_of allowed) m ≡ Err fault
     → IfOk (message_at table m) (λ x. pass ≡ has_only allowed x.0)
 no_types table m allowed pass fault walked = go (message_at table m) refl
   where
-    go : (read : Result (Message × ℕ) DecodeError) → message_at table m ≡ read → IfOk read (λ x. pass ≡ has_only allowed x.0)
+    go : (read : Result (Message × ℕ) DecodeError) → message_at table m ≡ read
+        → IfOk read (λ x. pass ≡ has_only allowed x.0)
     go (Ok x) h = let are = types_are table m allowed x.0 (is_read table m x h) in absurd (cc (sym walked ∙ are))
     go (Err e) h = tt
 
 -- ---- sets put to a list
 
-fold_sets : (before sets : List FirstSet) → fold with_set (firsts same_set before) sets ≡ firsts same_set (before ++ filter (λ s. forms_rrset s.rtype) sets)
+fold_sets : (before sets : List FirstSet) → fold with_set (firsts same_set before) sets
+    ≡ firsts same_set (before ++ filter (λ s. forms_rrset s.rtype) sets)
 fold_sets before [] = ap (firsts same_set) (sym (append-nil before))
 fold_sets before (x ∷ sets) = at (forms_rrset x.rtype) refl (fold_sets before sets) (fold_sets (before ++ x ∷ []) sets)
   where
-    at : (b : Bool) → forms_rrset x.rtype ≡ b → fold with_set (firsts same_set before) sets ≡ firsts same_set (before ++ filter (λ s. forms_rrset s.rtype) sets)
-        → fold with_set (firsts same_set (before ++ x ∷ [])) sets ≡ firsts same_set ((before ++ x ∷ []) ++ filter (λ s. forms_rrset s.rtype) sets)
-        → fold with_set (cond (forms_rrset x.rtype) (with_new same_set (firsts same_set before) x) (firsts same_set before)) sets
-        ≡ firsts same_set (before ++ cond (forms_rrset x.rtype) (x ∷ filter (λ s. forms_rrset s.rtype) sets) (filter (λ s. forms_rrset s.rtype) sets))
+    at : (b : Bool) → forms_rrset x.rtype ≡ b → fold with_set (firsts same_set before) sets
+        ≡ firsts same_set (before ++ filter (λ s. forms_rrset s.rtype) sets)
+        → fold with_set (firsts same_set (before ++ x ∷ [])) sets
+        ≡ firsts same_set ((before ++ x ∷ []) ++ filter (λ s. forms_rrset s.rtype) sets)
+        → fold with_set (cond (forms_rrset x.rtype) (with_new same_set (firsts same_set before) x)
+        (firsts same_set before)) sets
+        ≡ firsts same_set (before ++ cond (forms_rrset x.rtype) (x ∷ filter (λ s. forms_rrset s.rtype) sets)
+        (filter (λ s. forms_rrset s.rtype) sets))
     at true h without with =
-        rw (h, ← firsts-push same_set_equiv before x) (with ∙ ap (firsts same_set) (append_assoc before (x ∷ []) (filter (λ s. forms_rrset s.rtype) sets)))
+        rw (h, ← firsts-push same_set_equiv before x) (with
+        ∙ ap (firsts same_set) (append_assoc before (x ∷ []) (filter (λ s. forms_rrset s.rtype) sets)))
     at false h without with = rw h without
 
-listed_is : (section : ℕ) (records : List ResourceRecord) → filter (λ s. forms_rrset s.rtype) (map (set_of section) records) ≡ listed section records
+listed_is : (section : ℕ) (records : List ResourceRecord)
+    → filter (λ s. forms_rrset s.rtype) (map (set_of section) records) ≡ listed section records
 listed_is section [] = refl
 listed_is section (rr ∷ records) = at (forms_rrset rr.rtype) refl (listed_is section records)
   where
-    at : (b : Bool) → forms_rrset rr.rtype ≡ b → filter (λ s. forms_rrset s.rtype) (map (set_of section) records) ≡ listed section records
+    at : (b : Bool) → forms_rrset rr.rtype ≡ b → filter (λ s. forms_rrset s.rtype) (map (set_of section) records)
+        ≡ listed section records
         → filter (λ s. forms_rrset s.rtype) (map (set_of section) (rr ∷ records)) ≡ listed section (rr ∷ records)
     at true h later = rw h (ap (λ (xs : List FirstSet). set_of section rr ∷ xs) later)
     at false h later = rw h later
@@ -225,29 +276,42 @@ listed_is section (rr ∷ records) = at (forms_rrset rr.rtype) refl (listed_is s
 -- ---- the sets of a message
 
 put_all : (answers authorities others : List ResourceRecord)
-    → fold with_set (fold with_set (fold with_set [] (map (set_of 0) answers)) (map (set_of 1) authorities)) (map (set_of 2) others)
+    → fold with_set (fold with_set (fold with_set [] (map (set_of 0) answers)) (map (set_of 1) authorities))
+    (map (set_of 2) others)
     ≡ firsts same_set (listed 0 answers ++ listed 1 authorities ++ listed 2 others)
 put_all answers authorities others =
-    let a : fold with_set [] (map (set_of 0) answers) ≡ firsts same_set (listed 0 answers) = fold_sets [] (map (set_of 0) answers) ∙ ap (firsts same_set) (listed_is 0 answers) in
-    let b : fold with_set (firsts same_set (listed 0 answers)) (map (set_of 1) authorities) ≡ firsts same_set (listed 0 answers ++ listed 1 authorities) =
-    fold_sets (listed 0 answers) (map (set_of 1) authorities) ∙ ap (λ (xs : List FirstSet). firsts same_set (listed 0 answers ++ xs)) (listed_is 1 authorities) in
-    let c : fold with_set (firsts same_set (listed 0 answers ++ listed 1 authorities)) (map (set_of 2) others) ≡ firsts same_set (listed 0 answers ++ listed 1 authorities ++ listed 2 others) =
-    fold_sets (listed 0 answers ++ listed 1 authorities) (map (set_of 2) others) ∙ ap (λ (xs : List FirstSet). firsts same_set (listed 0 answers ++ listed 1 authorities ++ xs)) (listed_is 2 others) in
+    let a : fold with_set [] (map (set_of 0) answers)
+    ≡ firsts same_set (listed 0 answers) = fold_sets [] (map (set_of 0) answers)
+    ∙ ap (firsts same_set) (listed_is 0 answers) in
+    let b : fold with_set (firsts same_set (listed 0 answers)) (map (set_of 1) authorities)
+    ≡ firsts same_set (listed 0 answers ++ listed 1 authorities) =
+    fold_sets (listed 0 answers) (map (set_of 1) authorities)
+    ∙ ap (λ (xs : List FirstSet). firsts same_set (listed 0 answers ++ xs)) (listed_is 1 authorities) in
+    let c : fold with_set (firsts same_set (listed 0 answers ++ listed 1 authorities)) (map (set_of 2) others)
+    ≡ firsts same_set (listed 0 answers ++ listed 1 authorities ++ listed 2 others) =
+    fold_sets (listed 0 answers ++ listed 1 authorities) (map (set_of 2) others)
+    ∙ ap (λ (xs : List FirstSet). firsts same_set (listed 0 answers ++ listed 1 authorities ++ xs))
+    (listed_is 2 others) in
     rw (a, b) c
 
-sets_are : (table : Table) (m : List ℕ) (message : Message) → IsRead table m message → sets_at m ≡ Ok (message_sets message)
+sets_are : (table : Table) (m : List ℕ) (message : Message) → IsRead table m message
+    → sets_at m ≡ Ok (message_sets message)
 unfolding sets_at
 sets_are table m message is =
     let h : Header = message.header in
     rw (
       is.header,
       is.queries,
-      records_seen (set_of 0) (set_of_head 0) (λ head rdata. refl) m table h.answers is.queries_end message.answers is.answers_end is.answers,
-      records_seen (set_of 1) (set_of_head 1) (λ head rdata. refl) m table h.authorities is.answers_end message.authorities is.authorities_end is.authorities,
-      additionals_seen (set_of 2) (set_of_head 2) (λ head rdata. refl) m table h.additionals is.authorities_end message.additionals is.end is.additionals,
+      records_seen (set_of 0) (set_of_head 0) (λ head rdata. refl) m table h.answers is.queries_end message.answers
+          is.answers_end is.answers,
+      records_seen (set_of 1) (set_of_head 1) (λ head rdata. refl) m table h.authorities is.answers_end
+          message.authorities is.authorities_end is.authorities,
+      additionals_seen (set_of 2) (set_of_head 2) (λ head rdata. refl) m table h.additionals is.authorities_end
+          message.additionals is.end is.additionals,
     ) (ap (λ (xs : List FirstSet). Ok xs) (put_all message.answers message.authorities message.additionals))
 
-pub sets_are_given : (table : Table) (m : List ℕ) → IsOk (message_at table m) → sets_at m ≡ sets_given (message_at table m)
+pub sets_are_given : (table : Table) (m : List ℕ) → IsOk (message_at table m)
+    → sets_at m ≡ sets_given (message_at table m)
 sets_are_given table m is = at (message_at table m) refl is
   where
     at : (read : Result (Message × ℕ) DecodeError) → message_at table m ≡ read → IsOk read → sets_at m ≡ sets_given read

@@ -10,7 +10,8 @@ pub number_end : (w : Width) (m : List ℕ) (p e n q : ℕ) → number_at w m p 
 unfolding number_at octets_at
 number_end w m p e n q h =
     let b = bind_ok (octets_at (byte_len w) m p e) _ (n, q) h in
-    let t = passed (nat_le (p + byte_len w) e) InsufficientBytes (take (byte_len w) (drop p m), p + byte_len w) b.0 b.1 in
+    let t = passed (nat_le (p + byte_len w) e) InsufficientBytes
+    (take (byte_len w) (drop p m), p + byte_len w) b.0 b.1 in
     let end : p + byte_len w ≡ b.0.1 = ap (λ (y : List ℕ × ℕ). y.1) t.1 in
     let same : b.0.1 ≡ q = ap (λ (y : ℕ × ℕ). y.1) (is_ok_same _ _ b.2) in
     sym (end ∙ same)

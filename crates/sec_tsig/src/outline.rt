@@ -14,7 +14,6 @@ use crate::rdata::skip_rdata;
 use crate::record_head::{RecordHead, skip_head};
 use crate::signature_view::SignatureView;
 use dns_grammar::data_end;
-use dns_names::with_jumps;
 use dns_types::RecordType;
 use dns_wire::{BinDecoder, DecodeError};
 use sec_sigdata::BorrowedTsig;
@@ -156,10 +155,31 @@ impl<'a> Outline<'a> {
         }
     }
 
-    /// The outline of the message in these octets, by a table of jumps.
+    /// The same with a small table of jumps.
+    fn read_behind_small(header: Header, reader: BinDecoder<'a>) -> Result<Outline<'a>, DecodeError>
+        ensures exact { Gives outline_view result
+            (outlined (body_at short_table (octets reader.entry) (header_view header) (place reader.entry))) }
+        ensures placed { IfOk result (λ outline.
+            ForSome outline.signature (IsPlaced (place reader.entry) (octets reader.entry) outline.header)) }
+    {
+        let mut jumps = [0; 512];
+        Outline::read_behind(header, reader, &mut jumps)
+    }
+
+    /// The same with a table of jumps for each place that a pointer reaches.
+    fn read_behind_large(header: Header, reader: BinDecoder<'a>) -> Result<Outline<'a>, DecodeError>
+        ensures exact { Gives outline_view result
+            (outlined (body_at short_table (octets reader.entry) (header_view header) (place reader.entry))) }
+        ensures placed { IfOk result (λ outline.
+            ForSome outline.signature (IsPlaced (place reader.entry) (octets reader.entry) outline.header)) }
+    {
+        let mut jumps = [0; 0x4000];
+        Outline::read_behind(header, reader, &mut jumps)
+    }
+
+    /// The outline of the message in these octets.
     #[tactic(auto, unfolding(dns_grammar::specs::Messages::message_at))]
-    fn read_with(message: &'a [u8], jumps: &mut [u16]) -> Result<Outline<'a>, DecodeError>
-        requires { AreJumps message.now jumps.old }
+    pub(crate) fn read(message: &'a [u8]) -> Result<Outline<'a>, DecodeError>
         ensures exact { Gives outline_view result (outlined (message_at short_table message.now)) }
         ensures header { OnOk result (12 ≤ length message.now) }
         ensures placed { IfOk result (λ outline. ForSome outline.signature (IsPlaced 12 message.now outline.header)) }
@@ -168,15 +188,10 @@ impl<'a> Outline<'a> {
             return Err(DecodeError::MessageTooLong);
         }
         let (header, reader) = Header::read(message)?;
-        Outline::read_behind(header, reader, jumps)
-    }
-
-    /// The outline of the message in these octets.
-    pub(crate) fn read(message: &'a [u8]) -> Result<Outline<'a>, DecodeError>
-        ensures exact { Gives outline_view result (outlined (message_at short_table message.now)) }
-        ensures header { OnOk result (12 ≤ length message.now) }
-        ensures placed { IfOk result (λ outline. ForSome outline.signature (IsPlaced 12 message.now outline.header)) }
-    {
-        with_jumps(message, |jumps| Outline::read_with(message, jumps))
+        if message.len() <= 512 {
+            Outline::read_behind_small(header, reader)
+        } else {
+            Outline::read_behind_large(header, reader)
+        }
     }
 }

@@ -12,8 +12,11 @@ returns-in_err-end-clause-exact c =
     let head = c.in_ok-head.ensures.exact in
     let is = same_type _ _ _ c.if-ne.false c.ne.ensures in
     let end = rw head.1 at c.in_err-end.ensures in
-    rw (p.1, p.2)
-    (last_short (octets c.args.decoder.now) (place c.args.decoder.now) (head_view c.in_ok-head.head) (place c.read_with.new.decoder) _ head.0 is (sym end), refl)
+    rw (p.1, p.2) (
+      last_short (octets c.args.decoder.now) (place c.args.decoder.now) (head_view c.in_ok-head.head)
+          (place c.read_with.new.decoder) _ head.0 is (sym end),
+      refl,
+    )
 
 pub returns-in-Ok-clause-exact : goal.returns-in-Ok-clause-exact
 returns-in-Ok-clause-exact c =
@@ -22,9 +25,11 @@ returns-in-Ok-clause-exact c =
     let end = rw head.1 at c.in_ok-end.ensures in
     let row = rw head.1 at c.in-Ok.ensures.exact in
     let behind : c.in_ok-end.end ≡ place c.read_with.new.decoder + c.in_ok-head.head.length =
-    end_behind (octets c.args.decoder.now) (place c.read_with.new.decoder) c.in_ok-head.head.length c.in_ok-end.end (sym end) in (
+    end_behind (octets c.args.decoder.now) (place c.read_with.new.decoder) c.in_ok-head.head.length c.in_ok-end.end
+    (sym end) in (
       rw c.set_index.ensures.place
-          (last_signed (octets c.args.decoder.now) (place c.args.decoder.now) (head_view c.in_ok-head.head) (place c.read_with.new.decoder) c.in_ok-end.end
+          (last_signed (octets c.args.decoder.now) (place c.args.decoder.now) (head_view c.in_ok-head.head)
+          (place c.read_with.new.decoder) c.in_ok-end.end
           (borrowed_data c.in-Ok.tsig) head.0 is (sym end) row),
       c.set_index.ensures.octets ∙ head.1,
       omega (arith, behind, head.2, c.set_index.ensures.place),
@@ -35,5 +40,8 @@ returns-in-Err-clause-exact c =
     let head = c.in_ok-head.ensures.exact in
     let is = same_type _ _ _ c.if-ne.false c.ne.ensures in
     let end = rw head.1 at c.in_ok-end.ensures in
-    let row = rw head.1 at c.in-Err.ensures.exact in
-    (last_fails (octets c.args.decoder.now) (place c.args.decoder.now) (head_view c.in_ok-head.head) (place c.read_with.new.decoder) c.in_ok-end.end _ head.0 is (sym end) row, refl)
+    let row = rw head.1 at c.in-Err.ensures.exact in (
+      last_fails (octets c.args.decoder.now) (place c.args.decoder.now) (head_view c.in_ok-head.head)
+          (place c.read_with.new.decoder) c.in_ok-end.end _ head.0 is (sym end) row,
+      refl,
+    )

@@ -9,7 +9,8 @@ use Rattle.sec_tsig.proofs.record_walk.types_pass.Given as goal
 -- what was found so far and what is left to find are all that there is
 abbrev pub invariant-records : goal.invariant-records
 invariant-records l = record {
-  left : also l.pass (all_pass (is_one_of l.types) (each_at (type_at (octets l.reader)) (l.count - l.counter) (place l.reader)))
+  left : also l.pass (all_pass (is_one_of l.types) (each_at (type_at (octets l.reader)) (l.count - l.counter)
+      (place l.reader)))
       ≡ all_pass (is_one_of l.types) (each_at (type_at (octets l.fn.reader)) l.count (place l.fn.reader));
   same : octets l.reader ≡ octets l.fn.reader;
   jumps : AreJumps (octets l.reader) l.jumps;

@@ -18,14 +18,21 @@ returns c =
     let rdata : List ℕ = data_octets t in
     let written : (canonical : _) → _ = λ canonical. data_written canonical t fits.time fits.mac fits.other in
     let data_put : new ≡ record c.emit_u16-3.new.self { octets = c.emit_u16-3.new.self.octets ++ rdata } =
-    subst (Writes (Ok tt) c.emit_u16-3.new.self new) (written c.emit_u16-3.new.self.canonical_form) c.in_ok-emit.ensures in
+    subst (Writes (Ok tt) c.emit_u16-3.new.self new)
+    (written c.emit_u16-3.new.self.canonical_form) c.in_ok-emit.ensures in
     let long : c.data_len.result ≡ length rdata = c.data_len.ensures ∙ sym (data_length t) in
     let at_most : length rdata ≤ 65535 = omega (arith, data_length t, c.requires.at_most_65535) in
     let whole : new ≡ record c.args.encoder { octets = c.args.encoder.octets ++ octets_of_record owner rdata } =
-    piece_before c.args.encoder c.emit_vec.new.self new c.as_wire.result.now (wire owner) _ c.as_wire.ensures.value c.in_ok-emit_vec.ensures
-    (piece_before c.emit_vec.new.self c.emit_u16.new.self new (two_octets c.from.result) (two_octets tsig_type) _ (ap two_octets c.from.ensures) c.in_ok-emit_u16.ensures
-    (piece_before c.emit_u16.new.self c.emit_u16-2.new.self new (two_octets c.from-2.result) (two_octets any_class) _ (ap two_octets c.from-2.ensures) c.in_ok-emit_u16-2.ensures
-    (piece_before c.emit_u16-2.new.self c.emit_u32.new.self new (four_octets 0) (four_octets 0) _ refl c.in_ok-emit_u32.ensures
-    (piece_before c.emit_u32.new.self c.emit_u16-3.new.self new (two_octets c.data_len.result) (two_octets (length rdata)) rdata (ap two_octets long)
+    piece_before c.args.encoder c.emit_vec.new.self new c.as_wire.result.now
+    (wire owner) _ c.as_wire.ensures.value c.in_ok-emit_vec.ensures
+    (piece_before c.emit_vec.new.self c.emit_u16.new.self new (two_octets c.from.result) (two_octets tsig_type) _
+    (ap two_octets c.from.ensures) c.in_ok-emit_u16.ensures
+    (piece_before c.emit_u16.new.self c.emit_u16-2.new.self new (two_octets c.from-2.result) (two_octets any_class) _
+    (ap two_octets c.from-2.ensures) c.in_ok-emit_u16-2.ensures
+    (piece_before c.emit_u16-2.new.self c.emit_u32.new.self new (four_octets 0)
+    (four_octets 0) _ refl c.in_ok-emit_u32.ensures
+    (piece_before c.emit_u32.new.self c.emit_u16-3.new.self new (two_octets c.data_len.result)
+    (two_octets (length rdata)) rdata (ap two_octets long)
     c.in_ok-emit_u16-3.ensures data_put)))) in
-    ap (written_behind c.args.encoder) (record_written owner t fits.time fits.mac fits.other at_most) ∙ ap (λ (o : Output). Ok o) (sym whole)
+    ap (written_behind c.args.encoder) (record_written owner t fits.time fits.mac fits.other at_most)
+    ∙ ap (λ (o : Output). Ok o) (sym whole)

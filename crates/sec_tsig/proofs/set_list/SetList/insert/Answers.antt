@@ -6,17 +6,24 @@ use Rattle.sec_tsig.proofs.set_list.SetList.insert.Goals as goal
 
 pub returns-then-not-branch : goal.returns-then-not-branch
 returns-then-not-branch c =
-    let was = was_there c.args.set c.key.result c.key.ensures c.self.inside.sets.items c.self.inside.seen c.insert.new.self c.in_ok-insert.field-0 c.in_ok-insert.ensures.added c.in_ok-insert.ensures.updates.0 c.self.invariant in
-    listed_known c.args.set c.self.inside.sets.items (was false c.if-not-branch.true) ∙ ap (λ (s : List FirstSet). with_set s c.args.set) c.self.view_is
+    let was = was_there c.args.set c.key.result c.key.ensures c.self.inside.sets.items c.self.inside.seen
+    c.insert.new.self c.in_ok-insert.field-0 c.in_ok-insert.ensures.added c.in_ok-insert.ensures.updates.0
+    c.self.invariant in
+    listed_known c.args.set c.self.inside.sets.items (was false c.if-not-branch.true)
+    ∙ ap (λ (s : List FirstSet). with_set s c.args.set) c.self.view_is
 
 pub invariant_of-self-2 : goal.invariant_of-self-2
 invariant_of-self-2 c =
     rw c.in_ok-push.ensures.items
-    (knows_new c.args.set c.key.result c.key.ensures c.self.inside.sets.items c.self.inside.seen c.insert.new.self c.in_ok-insert.field-0 c.in_ok-insert.ensures.added c.in_ok-insert.ensures.updates.0 c.self.invariant)
+    (knows_new c.args.set c.key.result c.key.ensures c.self.inside.sets.items c.self.inside.seen c.insert.new.self
+    c.in_ok-insert.field-0 c.in_ok-insert.ensures.added c.in_ok-insert.ensures.updates.0 c.self.invariant)
 
 pub returns : goal.returns
 returns c =
-    let was = was_there c.args.set c.key.result c.key.ensures c.self.inside.sets.items c.self.inside.seen c.insert.new.self c.in_ok-insert.field-0 c.in_ok-insert.ensures.added c.in_ok-insert.ensures.updates.0 c.self.invariant in
+    let was = was_there c.args.set c.key.result c.key.ensures c.self.inside.sets.items c.self.inside.seen
+    c.insert.new.self c.in_ok-insert.field-0 c.in_ok-insert.ensures.added c.in_ok-insert.ensures.updates.0
+    c.self.invariant in
     c.in_ok-push.ensures.items
-    ∙ listed_new c.args.set c.self.inside.sets.items (sym c.forms_rrset.ensures ∙ c.if-not-forms_rrset.false) (was true c.if-not-branch.false)
+    ∙ listed_new c.args.set c.self.inside.sets.items (sym c.forms_rrset.ensures ∙ c.if-not-forms_rrset.false)
+    (was true c.if-not-branch.false)
     ∙ ap (λ (s : List FirstSet). with_set s c.args.set) c.self.view_is
