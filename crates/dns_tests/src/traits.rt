@@ -1,6 +1,6 @@
 //! The traits through their bounds.
-ghost use Rattle.std.specs.Prelude.{◌≡◌, ℕ, ◌<◌, ◌^◌, length, false};
-ghost use Rattle.dns_wire.specs.Reading.{GivesUnless};
+ghost use Rattle.std.specs.Prelude.{◌≡◌, ◌<◌, ◌^◌, length, false};
+ghost use Rattle.dns_wire.specs.Reading.{octets, place, GivesUnless};
 
 use dns_names::Name;
 use dns_wire::{
@@ -17,7 +17,7 @@ struct Number(u16);
 impl<'r> BinDecodable<'r> for Number {
     ghost use Rattle.std.specs.Prelude.{length};
     ghost use Rattle.std.specs.Int.{w16};
-    ghost use Rattle.dns_wire.specs.Reading.{ReadsUnless, number_at};
+    ghost use Rattle.dns_wire.specs.Reading.{octets, place, ReadsUnless, number_at};
 
     ghost is_read = { λ old new result. ReadsUnless (λ number. number.0) result old new
         (number_at w16 (octets old) (place old) (length (octets old))) };
@@ -30,7 +30,7 @@ impl<'r> BinDecodable<'r> for Number {
 impl<'r> RecordDataDecodable<'r> for Number {
     ghost use Rattle.std.specs.Prelude.{length};
     ghost use Rattle.std.specs.Int.{w16};
-    ghost use Rattle.dns_wire.specs.Reading.{ReadsUnless, number_at};
+    ghost use Rattle.dns_wire.specs.Reading.{octets, place, ReadsUnless, number_at};
 
     ghost is_read = { λ length_given old new result. ReadsUnless (λ number. number.0) result old new
         (number_at w16 (octets old) (place old) (length (octets old))) };
@@ -55,11 +55,11 @@ fn lowered_octets<T: BinEncodable>(alloc: Global, value: &T) -> Result<Vec<u8>, 
     Ok(encoder.into_bytes())
 }
 
-/// The value at the front of the octets.
-fn first_value<'r, T: BinDecodable<'r>>(alloc: Global, octets: &'r [u8]) -> Result<T, DecodeError>
-    ensures { (q : ℕ) × T.is_read octets.now 0 result q }
+/// The value at the front of a message.
+fn first_value<'r, T: BinDecodable<'r>>(alloc: Global, message: &'r [u8]) -> Result<T, DecodeError>
+    ensures { (old new : _) × (octets old ≡ message.now) × (place old ≡ 0) × T.is_read old new result }
 {
-    let mut decoder = BinDecoder::new(octets);
+    let mut decoder = BinDecoder::new(message);
     T::read(alloc, &mut decoder)
 }
 
@@ -69,7 +69,7 @@ fn data_value<'r, T: RecordDataDecodable<'r>>(
     rdata: &'r [u8],
 ) -> Result<T, DecodeError>
     requires { length rdata.now < 2 ^ 16 }
-    ensures { (q : ℕ) × T.is_read (length rdata.now) rdata.now 0 result q }
+    ensures { (old new : _) × (octets old ≡ rdata.now) × (place old ≡ 0) × T.is_read (length rdata.now) old new result }
 {
     let mut decoder = BinDecoder::new(rdata);
     T::read_data(alloc, &mut decoder, rdata.len() as u16)
