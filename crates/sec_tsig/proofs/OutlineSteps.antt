@@ -1,84 +1,97 @@
--- The outline of what stands behind a header, exit by exit.
+-- The outline of a message, by what stands before its last additional.
 use Rattle.std.proofs.Common.{◌≡◌, ◌≢◌, ℕ, zero, suc, ◌-◌, true, List, Option, None, Result, Ok, Err, refl, ap, ◌∙◌}
 use Rattle.std.proofs.Common.{arith}
 use Rattle.dns_wire.specs.declared.error.DecodeError.{DecodeError}
-use Rattle.dns_wire.specs.Reading.{◌>>=◌}
-use Rattle.dns_grammar.specs.Fields.{Table}
+use Rattle.dns_wire.specs.Reading.{◌>>=◌, each_at}
 use Rattle.dns_names.specs.Skipping.{without_value}
-use Rattle.dns_grammar.specs.Messages.{Header, Signature, Outline, queries_at, records_at, record_at, body_at}
-use Rattle.dns_grammar.proofs.OutlineLaws.{signature_at, outline_behind, outline_is_behind}
-use Rattle.sec_tsig.specs.Views.{as_signature, outlined}
+use Rattle.dns_grammar.specs.Tables.{short_table}
+use Rattle.dns_grammar.specs.Messages.{Header, Signature, Outline, queries_at, records_at, record_at}
+use Rattle.dns_grammar.specs.Messages.{sized_header_at, message_at}
+use Rattle.dns_grammar.proofs.OutlineLaws.{signature_at, outline_behind, outline_is}
+use Rattle.sec_tsig.specs.Views.{ahead_at, as_signature, outlined}
+
+-- the last of n additionals, at p
+unfoldable last_at : ℕ → List ℕ → ℕ → Result (Option Signature × ℕ) DecodeError
+last_at zero m p = Ok (None, p)
+last_at (suc n) m p = as_signature (record_at short_table true m p)
 
 abbrev with_header : Header → Option Signature × ℕ → Result (Outline × ℕ) DecodeError
 with_header header signature = Ok (record { header = header; signature = signature.0 }, signature.1)
 
-module _ (table : Table) (m : List ℕ) (header : Header) (p : ℕ) where
-  -- the questions end at a, the answers at b, the authorities at c
-  pub queries_fail : (e : DecodeError) → without_value (queries_at header.questions m p) ≡ Err e
-      → outlined (body_at table m header p) ≡ Err e
-  unfolding outline_behind
-  queries_fail e queries = outline_is_behind table m header p ∙ rw queries refl
+abbrev and_place : Header → Unit {0} × ℕ → Result (Header × ℕ) DecodeError
+and_place header others = Ok (header, others.1)
 
-  pub answers_fail : (a : ℕ) (e : DecodeError) → without_value (queries_at header.questions m p) ≡ Ok (tt, a)
-      → without_value (records_at table header.answers m a) ≡ Err e
-      → outlined (body_at table m header p) ≡ Err e
-  unfolding outline_behind
-  answers_fail a e queries answers = outline_is_behind table m header p ∙ rw (queries, answers) refl
+abbrev and_last : List ℕ → Header × ℕ → Result (Outline × ℕ) DecodeError
+and_last m x = last_at x.0.additionals m x.1 >>= with_header x.0
 
-  pub authorities_fail : (a b : ℕ) (e : DecodeError) → without_value (queries_at header.questions m p) ≡ Ok (tt, a)
-      → without_value (records_at table header.answers m a) ≡ Ok (tt, b)
-      → without_value (records_at table header.authorities m b) ≡ Err e → outlined (body_at table m header p) ≡ Err e
-  unfolding outline_behind
-  authorities_fail a b e queries answers authorities = outline_is_behind table m header p
-      ∙ rw (queries, answers, authorities) refl
+-- a step before what is read in two parts
+under : {A B C : Type 0} (first : Result A DecodeError)
+    (whole : A → Result C DecodeError) (front : A → Result B DecodeError) (back : B → Result C DecodeError)
+    → ((x : A) → whole x ≡ (front x >>= back)) → (first >>= whole) ≡ ((first >>= front) >>= back)
+under (Ok x) whole front back h = h x
+under (Err e) whole front back h = refl
 
-  -- the parts before the additionals
-  pub record Ahead (c : ℕ) : Type 0 where
-    pub a : ℕ
-    pub b : ℕ
-    pub queries : without_value (queries_at header.questions m p) ≡ Ok (tt, a)
-    pub answers : without_value (records_at table header.answers m a) ≡ Ok (tt, b)
-    pub authorities : without_value (records_at table header.authorities m b) ≡ Ok (tt, c)
+-- the additionals but the last, and the last
+in_two : (header : Header) (n : ℕ) (m : List ℕ) (p : ℕ) → header.additionals ≡ n
+    → (signature_at short_table n m p >>= with_header header)
+    ≡ ((without_value (records_at short_table (n - 1) m p) >>= and_place header) >>= and_last m)
+unfolding signature_at last_at each_at
+in_two header zero m p is = rw is refl
+in_two header (suc n) m p is =
+    let less : suc n - 1 ≡ n = omega arith in
+    rw less (go (without_value (records_at short_table n m p)))
+  where
+    go : (others : Result (Unit {0} × ℕ) DecodeError)
+        → ((others >>= λ x. as_signature (record_at short_table true m x.1)) >>= with_header header)
+        ≡ ((others >>= and_place header) >>= and_last m)
+    go (Ok x) = rw is refl
+    go (Err e) = refl
 
-  by_signature : (c : ℕ) → Ahead c → outlined (body_at table m header p)
-      ≡ (signature_at table header.additionals m c >>= with_header header)
-  unfolding outline_behind
-  by_signature c h = outline_is_behind table m header p ∙ rw (h.queries, h.answers, h.authorities) refl
+by_ahead : (m : List ℕ) → outlined (message_at short_table m) ≡ (ahead_at m >>= and_last m)
+unfolding outline_behind ahead_at
+by_ahead m =
+    outline_is short_table m
+    ∙ under (sized_header_at m) _ _ (and_last m) (λ header.
+    under (without_value (queries_at header.0.questions m header.1)) _ _ (and_last m) (λ queries.
+    under (without_value (records_at short_table header.0.answers m queries.1)) _ _ (and_last m) (λ answers.
+    under (without_value (records_at short_table header.0.authorities m answers.1)) _ _ (and_last m) (λ authorities.
+    in_two header.0 header.0.additionals m authorities.1 refl))))
 
-  none_at : (n c : ℕ) → n ≡ 0 → signature_at table n m c ≡ Ok (None, c)
-  unfolding signature_at
-  none_at zero c is = refl
-  none_at (suc n) c is = absurd (omega (arith, is))
+pub ahead_fails : (m : List ℕ) (e : DecodeError) → ahead_at m ≡ Err e → outlined (message_at short_table m) ≡ Err e
+ahead_fails m e ahead = by_ahead m ∙ ap (λ read. read >>= and_last m) ahead
 
-  some_at : (n c : ℕ) → n ≢ 0 → signature_at table n m c
-      ≡ (without_value (records_at table (n - 1) m c) >>= λ others. as_signature (record_at table true m others.1))
-  unfolding signature_at
-  some_at zero c some = absurd (some refl)
-  some_at (suc n) c some = let less : suc n - 1 ≡ n = omega arith in rw less refl
+none_at : (n : ℕ) (m : List ℕ) (p : ℕ) → n ≡ 0 → last_at n m p ≡ Ok (None, p)
+unfolding last_at
+none_at zero m p is = refl
+none_at (suc n) m p is = absurd (omega (arith, is))
 
-  pub no_additional : (c : ℕ) → Ahead c → header.additionals ≡ 0
-      → outlined (body_at table m header p) ≡ Ok (record { header = header; signature = None }, c)
-  no_additional c h none = by_signature c h ∙ ap (λ read. read >>= with_header header)
-      (none_at header.additionals c none)
+pub no_additional : (m : List ℕ) (header : Header) (p : ℕ) → ahead_at m ≡ Ok (header, p) → header.additionals ≡ 0
+    → outlined (message_at short_table m) ≡ Ok (record { header = header; signature = None }, p)
+no_additional m header p ahead none =
+    by_ahead m ∙ ap (λ read. read >>= and_last m) ahead
+    ∙ ap (λ read. read >>= with_header header) (none_at header.additionals m p none)
 
-  by_last : (c : ℕ) → Ahead c → header.additionals ≢ 0
-      → outlined (body_at table m header p)
-      ≡ ((without_value (records_at table (header.additionals - 1) m c)
-      >>= λ others. as_signature (record_at table true m others.1)) >>= with_header header)
-  by_last c h some = by_signature c h ∙ ap (λ read. read >>= with_header header) (some_at header.additionals c some)
+some_at : (n : ℕ) (m : List ℕ) (p : ℕ) → n ≢ 0 → last_at n m p ≡ as_signature (record_at short_table true m p)
+unfolding last_at
+some_at zero m p some = absurd (some refl)
+some_at (suc n) m p some = refl
 
-  pub others_fail : (c : ℕ) (e : DecodeError) → Ahead c → header.additionals ≢ 0
-      → without_value (records_at table (header.additionals - 1) m c) ≡ Err e
-      → outlined (body_at table m header p) ≡ Err e
-  others_fail c e h some others = by_last c h some ∙ rw others refl
+by_last : (m : List ℕ) (header : Header) (p : ℕ) → ahead_at m ≡ Ok (header, p) → header.additionals ≢ 0
+    → outlined (message_at short_table m) ≡ (as_signature (record_at short_table true m p) >>= with_header header)
+by_last m header p ahead some =
+    by_ahead m ∙ ap (λ read. read >>= and_last m) ahead
+    ∙ ap (λ read. read >>= with_header header) (some_at header.additionals m p some)
 
-  pub last_fails : (c d : ℕ) (e : DecodeError) → Ahead c → header.additionals ≢ 0
-      → without_value (records_at table (header.additionals - 1) m c) ≡ Ok (tt, d)
-      → as_signature (record_at table true m d) ≡ Err e → outlined (body_at table m header p) ≡ Err e
-  last_fails c d e h some others last = by_last c h some ∙ rw (others, last) refl
+pub last_fails : (m : List ℕ) (header : Header) (p : ℕ) (e : DecodeError)
+    → ahead_at m ≡ Ok (header, p) → header.additionals ≢ 0
+    → as_signature (record_at short_table true m p) ≡ Err e → outlined (message_at short_table m) ≡ Err e
+last_fails m header p e ahead some last = by_last m header p ahead some ∙ ap (λ read. read >>= with_header header) last
 
-  pub last_read : (c d : ℕ) (signature : Option Signature) (e : ℕ) → Ahead c → header.additionals ≢ 0
-      → without_value (records_at table (header.additionals - 1) m c) ≡ Ok (tt, d)
-      → as_signature (record_at table true m d) ≡ Ok (signature, e)
-      → outlined (body_at table m header p) ≡ Ok (record { header = header; signature = signature }, e)
-  last_read c d signature e h some others last = by_last c h some ∙ rw (others, last) refl
+pub last_read : (m : List ℕ) (header : Header) (p : ℕ) (signature : Option Signature) (q : ℕ)
+    → ahead_at m ≡ Ok (header, p) → header.additionals ≢ 0
+    → as_signature (record_at short_table true m p) ≡ Ok (signature, q)
+    → outlined (message_at short_table m) ≡ Ok (record { header = header; signature = signature }, q)
+last_read m header p signature q ahead some last =
+    by_last m header p ahead some ∙ ap (λ read. read >>= with_header header) last
+
+pub ruleset exits = (ahead_fails, no_additional, last_fails, last_read)

@@ -1,9 +1,12 @@
 -- What contracts see of messages in their octets.
-use Rattle.std.specs.Prelude.{ℕ, ◌≤◌, List, length, Option, Result, Ok, option_map}
+use Rattle.std.specs.Prelude.{ℕ, ◌-◌, ◌≤◌, List, length, Option, Result, Ok, option_map}
 use Rattle.dns_wire.specs.declared.error.DecodeError.{DecodeError}
 use Rattle.dns_wire.specs.Reading.{◌>>=◌}
+use Rattle.dns_names.specs.Skipping.{without_value}
+use Rattle.dns_grammar.specs.Tables.{short_table}
 use Rattle.dns_grammar.specs.Messages as grammar
 use Rattle.dns_grammar.specs.Messages.{Message, ResourceRecord, Signature, outline_of, signature_from}
+use Rattle.dns_grammar.specs.Messages.{queries_at, records_at, sized_header_at}
 use Rattle.sec_sigdata.specs.TsigRecords.{borrowed_data, borrowed_fields, TsigFits, TsigIsByNumber}
 use Rattle.sec_tsig.specs.declared.header.Header.{Header}
 use Rattle.sec_tsig.specs.declared.outline.Outline.{Outline}
@@ -52,3 +55,13 @@ outlined read = read >>= λ x. Ok (outline_of x.0, x.1)
 -- a record that is read, as a transaction signature
 abbrev pub as_signature : Result (ResourceRecord × ℕ) DecodeError → Result (Option Signature × ℕ) DecodeError
 as_signature read = read >>= λ rr. Ok (signature_from rr.0, rr.1)
+
+-- the header of a message, and the place behind its questions and all its records but the last additional
+unfoldable pub ahead_at : List ℕ → Result (grammar.Header × ℕ) DecodeError
+ahead_at m = do
+  header ← sized_header_at m
+  queries ← without_value (queries_at header.0.questions m header.1)
+  answers ← without_value (records_at short_table header.0.answers m queries.1)
+  authorities ← without_value (records_at short_table header.0.authorities m answers.1)
+  others ← without_value (records_at short_table (header.0.additionals - 1) m authorities.1)
+  Ok (header.0, others.1)

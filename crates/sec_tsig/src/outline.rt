@@ -5,15 +5,17 @@ ghost use Rattle.dns_wire.specs.Reading.{octets, place, Gives, Reads};
 ghost use Rattle.dns_names.specs.Jumps.{AreJumps};
 ghost use Rattle.dns_names.specs.Skipping.{without_value};
 ghost use Rattle.dns_grammar.specs.Tables.{short_table};
-ghost use Rattle.dns_grammar.specs.Messages.{body_at, message_at, queries_at, record_at, records_at};
+ghost use Rattle.dns_grammar.specs.Messages.{message_at, queries_at, record_at, records_at};
 ghost use Rattle.sec_sigdata.specs.TsigRecords.{borrowed_fields, TsigFits, TsigIsByNumber};
-ghost use Rattle.sec_tsig.specs.Views.{as_signature, header_view, outlined, outline_view, signature_view, IsPlaced};
+ghost use Rattle.sec_tsig.specs.Views.{ahead_at, as_signature, header_view, outlined, outline_view, signature_view};
+ghost use Rattle.sec_tsig.specs.Views.{IsPlaced};
 
 use crate::header::{Header, skip_query};
 use crate::rdata::skip_rdata;
 use crate::record_head::{RecordHead, skip_head};
 use crate::signature_view::SignatureView;
 use dns_grammar::data_end;
+use dns_names::with_jumps;
 use dns_types::RecordType;
 use dns_wire::{BinDecoder, DecodeError};
 use sec_sigdata::BorrowedTsig;
@@ -86,22 +88,46 @@ fn skip_records<'a>(
     Ok(reader)
 }
 
+/// The header of a message, and the place behind its questions and all its records but the last additional.
+#[tactic(auto, unfolding(crate::specs::Views::ahead_at))]
+fn read_ahead(message: &[u8], jumps: &mut [u16]) -> Result<(Header, usize), DecodeError>
+    requires { AreJumps message.now jumps.old }
+    ensures exact { Gives (λ x. (header_view x.0, x.1)) result (ahead_at message.now) }
+    ensures ahead { IfOk result (λ x. 12 ≤ x.1) }
+    ensures inside { IfOk result (λ x. x.1 ≤ length message.now) }
+{
+    if message.len() > 65535 {
+        return Err(DecodeError::MessageTooLong);
+    }
+    let (header, reader) = Header::read(message)?;
+    let reader = skip_queries(reader, header.questions, jumps)?;
+    let reader = skip_records(reader, header.answers, jumps)?;
+    let reader = skip_records(reader, header.authorities, jumps)?;
+    let reader = skip_records(reader, header.additionals.saturating_sub(1), jumps)?;
+    Ok((header, reader.index()))
+}
+
+/// The same with a table of jumps for the message.
+fn message_ahead(message: &[u8]) -> Result<(Header, usize), DecodeError>
+    ensures exact { Gives (λ x. (header_view x.0, x.1)) result (ahead_at message.now) }
+    ensures ahead { IfOk result (λ x. 12 ≤ x.1) }
+    ensures inside { IfOk result (λ x. x.1 ≤ length message.now) }
+{
+    with_jumps(message, |jumps| read_ahead(message, jumps))
+}
+
 /// Reads the last additional record, where that is a transaction signature, or skips it.
 #[tactic(auto, unfolding(dns_grammar::specs::Messages::record_at, dns_grammar::specs::RecordData::rdata_at))]
-fn read_last<'a>(
-    decoder: &mut BinDecoder<'a>,
-    jumps: &mut [u16],
-) -> Result<Option<SignatureView<'a>>, DecodeError>
-    requires jumps { AreJumps (octets decoder.old) jumps.old }
+fn read_last<'a>(decoder: &mut BinDecoder<'a>) -> Result<Option<SignatureView<'a>>, DecodeError>
     ensures exact { Reads (option_map signature_view) result decoder.old decoder.new
         (as_signature (record_at short_table true (octets decoder.old) (place decoder.old))) }
     ensures start { IfOk result (λ x. ForSome x (λ s. (s.start ≡ place decoder.old)
         × TsigFits (borrowed_fields s.tsig) × TsigIsByNumber (borrowed_fields s.tsig))) }
 {
     let mut reader = *decoder;
-    let head = RecordHead::read_with(&mut reader, jumps)?;
+    let head = RecordHead::read_with(&mut reader, &mut [])?;
     if head.rtype != RecordType::TSIG {
-        skip_rdata(&mut reader, head.rtype, head.length, jumps)?;
+        skip_rdata(&mut reader, head.rtype, head.length, &mut [])?;
         *decoder = reader;
         return Ok(None);
     }
@@ -122,76 +148,30 @@ fn read_last<'a>(
 }
 
 impl<'a> Outline<'a> {
-    /// The outline of what stands behind a header.
-    fn read_behind(
-        header: Header,
-        reader: BinDecoder<'a>,
-        jumps: &mut [u16],
-    ) -> Result<Outline<'a>, DecodeError>
-        requires jumps { AreJumps (octets reader) jumps.old }
-        ensures exact { Gives outline_view result
-            (outlined (body_at short_table (octets reader.entry) (header_view header) (place reader.entry))) }
-        ensures placed { IfOk result (λ outline.
-            ForSome outline.signature (IsPlaced (place reader.entry) (octets reader.entry) outline.header)) }
+    /// The outline of the message in these octets.
+    #[tactic(auto, using(crate::proofs::OutlineSteps::exits))]
+    pub(crate) fn read(message: &'a [u8]) -> Result<Outline<'a>, DecodeError>
+        ensures exact { Gives outline_view result (outlined (message_at short_table message.now)) }
+        ensures header { OnOk result (12 ≤ length message.now) }
+        ensures placed { IfOk result (λ outline. ForSome outline.signature (IsPlaced 12 message.now outline.header)) }
     {
-        let reader = skip_queries(reader, header.questions, jumps)?;
-        let reader = skip_records(reader, header.answers, jumps)?;
-        let reader = skip_records(reader, header.authorities, jumps)?;
+        let (header, end) = message_ahead(message)?;
         if header.additionals == 0 {
             return Ok(Outline {
                 header,
-                end: reader.index(),
+                end,
                 signature: None,
             });
         }
-        let mut reader = skip_records(reader, header.additionals - 1, jumps)?;
-        match read_last(&mut reader, jumps) {
+        let mut reader = BinDecoder::new(message);
+        reader.set_index(end);
+        match read_last(&mut reader) {
             Ok(signature) => Ok(Outline {
                 header,
                 end: reader.index(),
                 signature,
             }),
             Err(fault) => Err(fault),
-        }
-    }
-
-    /// The same with a small table of jumps.
-    fn read_behind_small(header: Header, reader: BinDecoder<'a>) -> Result<Outline<'a>, DecodeError>
-        ensures exact { Gives outline_view result
-            (outlined (body_at short_table (octets reader.entry) (header_view header) (place reader.entry))) }
-        ensures placed { IfOk result (λ outline.
-            ForSome outline.signature (IsPlaced (place reader.entry) (octets reader.entry) outline.header)) }
-    {
-        let mut jumps = [0; 512];
-        Outline::read_behind(header, reader, &mut jumps)
-    }
-
-    /// The same with a table of jumps for each place that a pointer reaches.
-    fn read_behind_large(header: Header, reader: BinDecoder<'a>) -> Result<Outline<'a>, DecodeError>
-        ensures exact { Gives outline_view result
-            (outlined (body_at short_table (octets reader.entry) (header_view header) (place reader.entry))) }
-        ensures placed { IfOk result (λ outline.
-            ForSome outline.signature (IsPlaced (place reader.entry) (octets reader.entry) outline.header)) }
-    {
-        let mut jumps = [0; 0x4000];
-        Outline::read_behind(header, reader, &mut jumps)
-    }
-
-    /// The outline of the message in these octets.
-    #[tactic(auto, unfolding(dns_grammar::specs::Messages::message_at))]
-    pub(crate) fn read(message: &'a [u8]) -> Result<Outline<'a>, DecodeError>
-        ensures exact { Gives outline_view result (outlined (message_at short_table message.now)) }
-        ensures header { OnOk result (12 ≤ length message.now) }
-        ensures placed { IfOk result (λ outline. ForSome outline.signature (IsPlaced 12 message.now outline.header)) }
-    {
-        if message.len() > 65535 {
-            return Err(DecodeError::MessageTooLong);
-        }
-        let (header, reader) = Header::read(message)?;
-        if message.len() <= 512 {
-            Outline::read_behind_small(header, reader)
-        } else {
-            Outline::read_behind_large(header, reader)
         }
     }
 }

@@ -1,5 +1,0 @@
-use Rattle.dns_names.proofs.Chains.{jumps_none}
-use Rattle.sec_tsig.proofs.outline.Outline.read_behind_large.Goals as goal
-
-pub read_behind-requires : goal.read_behind-requires
-read_behind-requires c = record { jumps = jumps_none _ 16384 }
