@@ -246,24 +246,6 @@ fn orders_names(rt: HostRuntime) -> Result<(), Fail> {
 }
 
 #[test]
-fn writes_highest_octets_first(rt: HostRuntime) -> Result<(), Fail> {
-    let mut encoder = BinEncoder::new(rt.alloc());
-    encoder.emit_u8(1)?;
-    encoder.emit_u16(4660)?;
-    encoder.emit_u32(1000)?;
-    encoder.emit_vec(&[0xff])?;
-    encoder.set_name_encoding(NameEncoding::UncompressedLowercase);
-    Name::from_ascii("Ex.")?.emit(&mut encoder)?;
-    let want: &[u8] = b"\x01\x12\x34\x00\x00\x03\xe8\xff\x02ex\x00";
-    assert_eq!(rt; encoder.as_slice(), want);
-    assert_eq!(rt;
-        Octets::from_slice(rt.alloc(), &[1, 2])?.as_slice(),
-        [1u8, 2].as_slice()
-    );
-    Ok(())
-}
-
-#[test]
 fn writes_and_reads_numbers(rt: HostRuntime) -> Result<(), Fail> {
     let mut encoder = BinEncoder::new(rt.alloc());
     encoder.emit_u8(1)?;
