@@ -14,14 +14,16 @@ use Rattle.dns_types.specs.ClassNumbers as classes
 -- the types that have a mnemonic here, with it
 abbrev pub type_mnemonics : List (ℕ × List ℕ)
 type_mnemonics =
-    (types.A, codes "A") ∷ (types.NS, codes "NS") ∷ (types.CNAME, codes "CNAME") ∷ (types.SOA, codes "SOA") ∷
-    (types.NULL, codes "NULL") ∷ (types.PTR, codes "PTR") ∷ (types.MX, codes "MX") ∷ (types.TXT, codes "TXT") ∷
-    (types.SIG, codes "SIG") ∷ (types.KEY, codes "KEY") ∷ (types.AAAA, codes "AAAA") ∷ (types.SRV, codes "SRV") ∷
-    (types.NAPTR, codes "NAPTR") ∷ (types.DNAME, codes "DNAME") ∷ (types.OPT, codes "OPT") ∷
-    (types.DS, codes "DS") ∷ (types.RRSIG, codes "RRSIG") ∷ (types.NSEC, codes "NSEC") ∷
-    (types.DNSKEY, codes "DNSKEY") ∷ (types.NSEC3, codes "NSEC3") ∷ (types.NSEC3PARAM, codes "NSEC3PARAM") ∷
-    (types.CDS, codes "CDS") ∷ (types.CDNSKEY, codes "CDNSKEY") ∷ (types.TSIG, codes "TSIG") ∷
-    (types.IXFR, codes "IXFR") ∷ (types.AXFR, codes "AXFR") ∷ (types.ANY, codes "ANY") ∷ []
+    (types.A, codes "A") ∷ (types.NS, codes "NS") ∷ (types.MD, codes "MD") ∷ (types.MF, codes "MF") ∷
+    (types.CNAME, codes "CNAME") ∷ (types.SOA, codes "SOA") ∷ (types.MB, codes "MB") ∷ (types.MG, codes "MG") ∷
+    (types.MR, codes "MR") ∷ (types.NULL, codes "NULL") ∷ (types.PTR, codes "PTR") ∷ (types.MINFO, codes "MINFO") ∷
+    (types.MX, codes "MX") ∷ (types.TXT, codes "TXT") ∷ (types.RP, codes "RP") ∷ (types.AFSDB, codes "AFSDB") ∷
+    (types.RT, codes "RT") ∷ (types.SIG, codes "SIG") ∷ (types.KEY, codes "KEY") ∷ (types.PX, codes "PX") ∷
+    (types.AAAA, codes "AAAA") ∷ (types.SRV, codes "SRV") ∷ (types.NAPTR, codes "NAPTR") ∷ (types.KX, codes "KX") ∷
+    (types.DNAME, codes "DNAME") ∷ (types.OPT, codes "OPT") ∷ (types.DS, codes "DS") ∷ (types.RRSIG, codes "RRSIG") ∷
+    (types.NSEC, codes "NSEC") ∷ (types.DNSKEY, codes "DNSKEY") ∷ (types.NSEC3, codes "NSEC3") ∷
+    (types.NSEC3PARAM, codes "NSEC3PARAM") ∷ (types.CDS, codes "CDS") ∷ (types.CDNSKEY, codes "CDNSKEY") ∷
+    (types.TSIG, codes "TSIG") ∷ (types.IXFR, codes "IXFR") ∷ (types.AXFR, codes "AXFR") ∷ (types.ANY, codes "ANY") ∷ []
 
 -- the classes that have a mnemonic here, with it
 abbrev pub class_mnemonics : List (ℕ × List ℕ)

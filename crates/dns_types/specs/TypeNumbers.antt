@@ -7,11 +7,26 @@ A = 1
 abbrev pub NS : ℕ
 NS = 2
 
+abbrev pub MD : ℕ
+MD = 3
+
+abbrev pub MF : ℕ
+MF = 4
+
 abbrev pub CNAME : ℕ
 CNAME = 5
 
 abbrev pub SOA : ℕ
 SOA = 6
+
+abbrev pub MB : ℕ
+MB = 7
+
+abbrev pub MG : ℕ
+MG = 8
+
+abbrev pub MR : ℕ
+MR = 9
 
 abbrev pub NULL : ℕ
 NULL = 10
@@ -19,17 +34,32 @@ NULL = 10
 abbrev pub PTR : ℕ
 PTR = 12
 
+abbrev pub MINFO : ℕ
+MINFO = 14
+
 abbrev pub MX : ℕ
 MX = 15
 
 abbrev pub TXT : ℕ
 TXT = 16
 
+abbrev pub RP : ℕ
+RP = 17
+
+abbrev pub AFSDB : ℕ
+AFSDB = 18
+
+abbrev pub RT : ℕ
+RT = 21
+
 abbrev pub SIG : ℕ
 SIG = 24
 
 abbrev pub KEY : ℕ
 KEY = 25
+
+abbrev pub PX : ℕ
+PX = 26
 
 abbrev pub AAAA : ℕ
 AAAA = 28
@@ -39,6 +69,9 @@ SRV = 33
 
 abbrev pub NAPTR : ℕ
 NAPTR = 35
+
+abbrev pub KX : ℕ
+KX = 36
 
 abbrev pub DNAME : ℕ
 DNAME = 39

@@ -8,20 +8,31 @@ use std::fmt;
 use std::marker::Model;
 
 /// The types that have a mnemonic here, with it (IANA, Resource Record TYPEs).
-pub(crate) const TYPES: [(u16, &str); 27] = [
+pub(crate) const TYPES: [(u16, &str); 38] = [
     (RecordType::A.0, "A"),
     (RecordType::NS.0, "NS"),
+    (RecordType::MD.0, "MD"),
+    (RecordType::MF.0, "MF"),
     (RecordType::CNAME.0, "CNAME"),
     (RecordType::SOA.0, "SOA"),
+    (RecordType::MB.0, "MB"),
+    (RecordType::MG.0, "MG"),
+    (RecordType::MR.0, "MR"),
     (RecordType::NULL.0, "NULL"),
     (RecordType::PTR.0, "PTR"),
+    (RecordType::MINFO.0, "MINFO"),
     (RecordType::MX.0, "MX"),
     (RecordType::TXT.0, "TXT"),
+    (RecordType::RP.0, "RP"),
+    (RecordType::AFSDB.0, "AFSDB"),
+    (RecordType::RT.0, "RT"),
     (RecordType::SIG.0, "SIG"),
     (RecordType::KEY.0, "KEY"),
+    (RecordType::PX.0, "PX"),
     (RecordType::AAAA.0, "AAAA"),
     (RecordType::SRV.0, "SRV"),
     (RecordType::NAPTR.0, "NAPTR"),
+    (RecordType::KX.0, "KX"),
     (RecordType::DNAME.0, "DNAME"),
     (RecordType::OPT.0, "OPT"),
     (RecordType::DS.0, "DS"),
@@ -82,11 +93,26 @@ impl RecordType {
     /// A name server.
     pub const NS: RecordType = RecordType(2);
 
+    /// A mail destination.
+    pub const MD: RecordType = RecordType(3);
+
+    /// A mail forwarder.
+    pub const MF: RecordType = RecordType(4);
+
     /// An alias.
     pub const CNAME: RecordType = RecordType(5);
 
     /// The start of a zone.
     pub const SOA: RecordType = RecordType(6);
+
+    /// A mailbox.
+    pub const MB: RecordType = RecordType(7);
+
+    /// A member of a mail group.
+    pub const MG: RecordType = RecordType(8);
+
+    /// Another name of a mailbox.
+    pub const MR: RecordType = RecordType(9);
 
     /// Any octets.
     pub const NULL: RecordType = RecordType(10);
@@ -94,17 +120,32 @@ impl RecordType {
     /// A pointer to a name.
     pub const PTR: RecordType = RecordType(12);
 
+    /// Mailboxes of a mailing list.
+    pub const MINFO: RecordType = RecordType(14);
+
     /// A mail exchange.
     pub const MX: RecordType = RecordType(15);
 
     /// Text.
     pub const TXT: RecordType = RecordType(16);
 
+    /// A responsible person.
+    pub const RP: RecordType = RecordType(17);
+
+    /// A server of an AFS cell.
+    pub const AFSDB: RecordType = RecordType(18);
+
+    /// A route through another host.
+    pub const RT: RecordType = RecordType(21);
+
     /// A signature of the older form.
     pub const SIG: RecordType = RecordType(24);
 
     /// A key of the older form.
     pub const KEY: RecordType = RecordType(25);
+
+    /// Mail between RFC 822 and X.400.
+    pub const PX: RecordType = RecordType(26);
 
     /// An IPv6 address.
     pub const AAAA: RecordType = RecordType(28);
@@ -114,6 +155,9 @@ impl RecordType {
 
     /// A naming authority pointer.
     pub const NAPTR: RecordType = RecordType(35);
+
+    /// A key exchanger.
+    pub const KX: RecordType = RecordType(36);
 
     /// An alias of a subtree.
     pub const DNAME: RecordType = RecordType(39);

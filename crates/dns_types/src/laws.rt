@@ -11,23 +11,34 @@ ghost use Rattle.dns_types.specs.TypeSets.{has_type, types, types_at, type_set_a
 use crate::codes::{DNSClass, RecordType};
 
 /// The constants of types have the numbers that the registry has beside their names.
-pub fn types_by_name() -> [RecordType; 27]
+pub fn types_by_name() -> [RecordType; 38]
     ensures { result ≡ map (λ entry. entry.0) type_mnemonics }
 {
     [
         RecordType::A,
         RecordType::NS,
+        RecordType::MD,
+        RecordType::MF,
         RecordType::CNAME,
         RecordType::SOA,
+        RecordType::MB,
+        RecordType::MG,
+        RecordType::MR,
         RecordType::NULL,
         RecordType::PTR,
+        RecordType::MINFO,
         RecordType::MX,
         RecordType::TXT,
+        RecordType::RP,
+        RecordType::AFSDB,
+        RecordType::RT,
         RecordType::SIG,
         RecordType::KEY,
+        RecordType::PX,
         RecordType::AAAA,
         RecordType::SRV,
         RecordType::NAPTR,
+        RecordType::KX,
         RecordType::DNAME,
         RecordType::OPT,
         RecordType::DS,
