@@ -7,3 +7,5 @@ pub mod TypeLaws
 pub mod TypeWalks
 pub mod EqualForms
 pub mod FormWriting
+pub mod ReaderLaws
+pub mod TypeReaderLaws

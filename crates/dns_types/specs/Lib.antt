@@ -3,3 +3,4 @@ pub mod Codes
 pub mod TypeNumbers
 pub mod TypeSets
 pub mod TypeWalks
+pub mod TypeReaders

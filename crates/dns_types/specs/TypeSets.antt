@@ -97,6 +97,10 @@ ascend_from lowest (block ∷ blocks) = nat_le lowest block.window && ascend_fro
 unfoldable pub is_ascending : List ℕ → Bool
 is_ascending octets = ascend_from 0 (blocks_of octets)
 
+-- A set stands from p up to e: its octets, which are a bitmap, and q is the place behind them.
+abbrev pub TypesAt : List ℕ → ℕ → ℕ → List ℕ → ℕ → Type 0
+TypesAt m p e set q = (set ≡ slice_range m p e) × IsBitmap set × (q ≡ e)
+
 -- What reading a set gives from p up to e, where its octets end: these octets, and that place. Octets that are no
 -- bitmap are `BitmapMalformed`.
 abbrev pub types_at : List ℕ → ℕ → ℕ → Result (List ℕ × ℕ) DecodeError

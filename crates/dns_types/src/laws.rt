@@ -6,7 +6,7 @@ ghost use Rattle.std.specs.List.Sorted.{IsStrictlyIncreasing};
 ghost use Rattle.dns_types.specs.declared.codes.TheConstants.{TYPES, CLASSES};
 ghost use Rattle.dns_types.specs.Codes.{type_mnemonics, type_text, type_of, class_mnemonics, class_text, class_of};
 ghost use Rattle.dns_types.specs.TypeSets.{Block, AreBlocks, IsBitmap, HasType, is_bitmap, is_ascending, is_one_of};
-ghost use Rattle.dns_types.specs.TypeSets.{has_type, types, types_at, type_set_at, form_of};
+ghost use Rattle.dns_types.specs.TypeSets.{has_type, types, TypesAt, types_at, type_set_at, form_of};
 
 use crate::codes::{DNSClass, RecordType};
 
@@ -97,11 +97,13 @@ pub fn equal_forms_have_equal_types()
         → (form_of (is_one_of xs) ≡ form_of (is_one_of ys)) ↔ ((t : ℕ) → Contains xs t ↔ Contains ys t) }
 {}
 
-/// A bitmap is read exactly where it stands, and its blocks are one list.
+/// A bitmap is read exactly where it stands, its blocks are one list, and a set is read exactly where it stands.
 pub fn bitmap_is_read_where_it_stands()
     ensures bitmap { (x : List ℕ) → IsTrue (is_bitmap x) ↔ IsBitmap x }
     ensures one { (x : List ℕ) (a b : List Block) → AreBlocks x a → AreBlocks x b → a ≡ b }
     ensures member { (x : List ℕ) (t : ℕ) → IsBitmap x → IsTrue (has_type x t) ↔ HasType x t }
+    ensures set { (m : List ℕ) (p e : ℕ) (set : List ℕ) (q : ℕ)
+        → (types_at m p e ≡ Ok (set, q)) ↔ TypesAt m p e set q }
 {}
 
 /// The types of a bitmap strictly increase, and are those that it has.

@@ -1,5 +1,6 @@
 //! Sets of record types (RFC 4034 4.1.2, RFC 5155 3.2.1).
-ghost use Rattle.std.specs.Prelude.{◌≡◌, ◌↔◌, ℕ, ◌+◌, ◌^◌, ◌<◌, ◌≤◌, IsTrue, IfOk, OnOk, Contains, length, nat_eq};
+ghost use Rattle.std.specs.Prelude.{◌≡◌, ◌↔◌, ◌⊎◌, ℕ, ◌+◌, ◌^◌, ◌<◌, ◌≤◌, IsTrue, IfOk, OnOk, IsOkAnd, Contains};
+ghost use Rattle.std.specs.Prelude.{List, length, nat_eq};
 ghost use Rattle.std.specs.Cmp.{partial_equiv_from_equiv};
 ghost use Rattle.std.specs.Cmp.Lexicographic.{pointwise, nat_list_eq_equiv};
 ghost use Rattle.std.specs.Cmp.Rules.{hashing};
@@ -7,7 +8,8 @@ ghost use Rattle.std.specs.Iterator.{YieldsFirst, item_count};
 ghost use Rattle.std.proofs.Common.{rules};
 ghost use Rattle.std.specs.Hash as fed;
 ghost use Rattle.dns_wire.specs.Reading.{octets, place, ReadsUnless};
-ghost use Rattle.dns_types.specs.TypeSets.{is_bitmap, has_type, HasType, types, types_at, is_one_of, form_of};
+ghost use Rattle.dns_types.specs.TypeSets.{is_bitmap, has_type, HasType, types, TypesAt, types_at, type_set_at};
+ghost use Rattle.dns_types.specs.TypeSets.{is_one_of, form_of};
 
 use crate::codes::RecordType;
 use crate::type_blocks::{TypeBlock, has_type, is_ascending, is_bitmap};
@@ -74,6 +76,26 @@ impl RecordTypeSet {
     ) -> Result<RecordTypeSet, DecodeError>
         requires ahead { place decoder.old ≤ end }
         requires inside { end ≤ length (octets decoder.old) }
+        ensures found { IfOk result (λ set. TypesAt (octets decoder.old) (place decoder.old) end set
+            (place decoder.new)) }
+        ensures only { (set : List ℕ) (q : ℕ) → TypesAt (octets decoder.old) (place decoder.old) end set q
+            → (result ≡ Err DecodeError.OutOfMemory) ⊎ IsOkAnd result (λ x. x ≡ set) }
+        ensures exact { ReadsUnless (λ set. set) result decoder.old decoder.new
+            (types_at (octets decoder.old) (place decoder.old) end) }
+        ensures bitmap { IfOk result (λ set. IsTrue (is_bitmap set)) }
+        ensures inside { place decoder.new ≤ end }
+    {
+        RecordTypeSet::read_up_to(alloc, decoder, end)
+    }
+
+    /// Reads the set whose octets go up to `end`, as the reading function gives it.
+    fn read_up_to(
+        alloc: Global,
+        decoder: &mut BinDecoder<'_>,
+        end: usize,
+    ) -> Result<RecordTypeSet, DecodeError>
+        requires ahead { place decoder.old ≤ end }
+        requires inside { end ≤ length (octets decoder.old) }
         ensures exact { ReadsUnless (λ set. set) result decoder.old decoder.new
             (types_at (octets decoder.old) (place decoder.old) end) }
         ensures bitmap { IfOk result (λ set. IsTrue (is_bitmap set)) }
@@ -87,6 +109,22 @@ impl RecordTypeSet {
         let set = RecordTypeSet::of_bitmap(alloc, octets)?;
         *decoder = reader;
         Ok(set)
+    }
+
+    /// Reads the set of `length` octets, as the reading function gives it.
+    fn read_sized(
+        alloc: Global,
+        decoder: &mut BinDecoder<'_>,
+        length: u16,
+    ) -> Result<RecordTypeSet, DecodeError>
+        ensures { ReadsUnless (λ set. set) result decoder.old decoder.new
+            (type_set_at (octets decoder.old) (place decoder.old) length) }
+    {
+        if decoder.len() < usize::from(length) {
+            return Err(DecodeError::InsufficientBytes);
+        }
+        let end = decoder.index() + usize::from(length);
+        RecordTypeSet::read_up_to(alloc, decoder, end)
     }
 
     /// The set of a bitmap.
@@ -158,11 +196,9 @@ impl RecordTypeSet {
 }
 
 impl<'r> RecordDataDecodable<'r> for RecordTypeSet {
-    ghost use Rattle.dns_wire.specs.Reading.{ReadsUnless};
-    ghost use Rattle.dns_types.specs.TypeSets.{type_set_at};
+    ghost use Rattle.dns_types.specs.TypeReaders.{ReadsTypes};
 
-    ghost is_read = { λ len old new result. ReadsUnless (λ set. set) result old new
-        (type_set_at (octets old) (place old) len) };
+    ghost is_read = { ReadsTypes };
 
     /// Reads the set whose octets are the data.
     ///
@@ -170,16 +206,13 @@ impl<'r> RecordDataDecodable<'r> for RecordTypeSet {
     ///
     /// `InsufficientBytes` where fewer octets are left, then `BitmapMalformed` for octets that are no bitmap, or out
     /// of memory. The decoder then stays in place.
+    #[tactic(auto, using(crate::proofs::TypeReaderLaws::reads_types))]
     fn read_data(
         alloc: Global,
         decoder: &mut BinDecoder<'r>,
         length: u16,
     ) -> Result<RecordTypeSet, DecodeError> {
-        if decoder.len() < usize::from(length) {
-            return Err(DecodeError::InsufficientBytes);
-        }
-        let end = decoder.index() + usize::from(length);
-        RecordTypeSet::read_within(alloc, decoder, end)
+        RecordTypeSet::read_sized(alloc, decoder, length)
     }
 }
 
