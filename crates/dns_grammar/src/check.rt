@@ -1,9 +1,10 @@
 //! Record data checked in their octets by the fields of their type, without memory.
-ghost use Rattle.std.specs.Prelude.{◌≡◌, ◌+◌, ◌-◌, ◌≤◌, ◌<◌, List, [], ◌∷◌, length, IfOk};
+ghost use Rattle.std.specs.Prelude.{◌≡◌, ℕ, ◌+◌, ◌-◌, ◌≤◌, ◌<◌, List, [], ◌∷◌, length, IfOk, IsOk, OnOk};
 ghost use Rattle.dns_wire.specs.Reading.{octets, place, Gives, Reads};
 ghost use Rattle.dns_names.specs.Jumps.{AreJumps};
-ghost use Rattle.dns_grammar.specs.Fields.{Field, Table, row_of, fields_at, strings_at};
+ghost use Rattle.dns_grammar.specs.Fields.{Field, Table, Value, row_of, FieldsAt, fields_at, strings_at};
 ghost use Rattle.dns_grammar.specs.RecordData.{one_type_data_at, rdata_at};
+ghost use Rattle.dns_grammar.specs.RowReaders.{ChecksRow, ChecksData};
 ghost use Rattle.dns_names.specs.Skipping.{without_value};
 ghost use Rattle.dns_grammar.specs.FieldForms.{form_field, form_fields};
 
@@ -28,7 +29,7 @@ pub trait TestedField {
     fn skip(&self, decoder: &mut BinDecoder<'_>, end: usize) -> Result<(), DecodeError>
         requires ahead { place decoder.old ≤ end }
         requires inside { end ≤ length (octets decoder.old) }
-        ensures exact { Reads (λ u. u) result decoder.old decoder.new
+        ensures exact { Reads (λ x. x) result decoder.old decoder.new
             (without_value (fields_at (field self.now ∷ []) (octets decoder.old) (place decoder.old) end)) }
         ensures inside { place decoder.new ≤ end };
 }
@@ -105,7 +106,7 @@ impl<T: TestedField> FieldForm<T> {
         requires ahead { place decoder.old ≤ end }
         requires inside { end ≤ length (octets decoder.old) }
         requires jumps { AreJumps (octets decoder.old) jumps.old }
-        ensures exact { Reads (λ u. u) result decoder.old decoder.new
+        ensures exact { Reads (λ x. x) result decoder.old decoder.new
             (without_value (fields_at (form_field T.field self.now ∷ [])
             (octets decoder.old) (place decoder.old) end)) }
         ensures inside { place decoder.new ≤ end }
@@ -168,6 +169,25 @@ fn skip_fields<'a, T: TestedField>(
     Ok(reader)
 }
 
+/// Goes past fields one behind the other, as the reading function does.
+fn pass_fields<T: TestedField>(
+    decoder: &mut BinDecoder<'_>,
+    end: usize,
+    fields: &[FieldForm<T>],
+    jumps: &mut [u16],
+) -> Result<(), DecodeError>
+    requires ahead { place decoder.old ≤ end }
+    requires inside { end ≤ length (octets decoder.old) }
+    requires jumps { AreJumps (octets decoder.old) jumps.old }
+    ensures exact { Reads (λ x. x) result decoder.old decoder.new
+        (without_value (fields_at (form_fields T.field fields.now) (octets decoder.old) (place decoder.old) end)) }
+    ensures inside { place decoder.new ≤ end }
+    ensures jumps { AreJumps (octets decoder.old) jumps.new }
+{
+    *decoder = skip_fields(*decoder, end, fields, jumps)?;
+    Ok(())
+}
+
 /// Checks fields one behind the other, which end at or before `end`, and goes behind them.
 ///
 /// # Errors
@@ -183,12 +203,39 @@ pub fn check_fields<T: TestedField>(
     requires ahead { place decoder.old ≤ end }
     requires inside { end ≤ length (octets decoder.old) }
     requires jumps { AreJumps (octets decoder.old) jumps.old }
-    ensures exact { Reads (λ u. u) result decoder.old decoder.new
+    ensures found { OnOk result ((vs : List Value) × FieldsAt (form_fields T.field fields.now)
+        (octets decoder.old) (place decoder.old) end vs (place decoder.new)) }
+    ensures only { (vs : List Value) (q : ℕ)
+        → FieldsAt (form_fields T.field fields.now) (octets decoder.old) (place decoder.old) end vs q
+        → IsOk result × (place decoder.new ≡ q) }
+    ensures exact { Reads (λ x. x) result decoder.old decoder.new
         (without_value (fields_at (form_fields T.field fields.now) (octets decoder.old) (place decoder.old) end)) }
     ensures inside { place decoder.new ≤ end }
     ensures jumps { AreJumps (octets decoder.old) jumps.new }
 {
-    *decoder = skip_fields(*decoder, end, fields, jumps)?;
+    pass_fields(decoder, end, fields, jumps)
+}
+
+/// Goes past the data of one known type, as the reading function does.
+#[tactic(auto, unfolding(crate::specs::RecordData::one_type_data_at, crate::specs::RecordData::fields_filling))]
+fn pass_row<T: TestedField>(
+    decoder: &mut BinDecoder<'_>,
+    len: u16,
+    fields: &[FieldForm<T>],
+    jumps: &mut [u16],
+) -> Result<(), DecodeError>
+    requires jumps { AreJumps (octets decoder.old) jumps.old }
+    ensures exact { Reads (λ x. x) result decoder.old decoder.new
+        (without_value (one_type_data_at (form_fields T.field fields.now)
+        (octets decoder.old) (place decoder.old) len)) }
+    ensures jumps { AreJumps (octets decoder.old) jumps.new }
+{
+    let start = decoder.index();
+    let end = data_end(decoder, len)?;
+    let mut reader = *decoder;
+    pass_fields(&mut reader, end, fields, jumps)?;
+    expect_end(&reader, start, end)?;
+    *decoder = reader;
     Ok(())
 }
 
@@ -199,7 +246,7 @@ pub fn check_fields<T: TestedField>(
 /// `InsufficientBytes` where fewer octets are left, and where `len` is 0. Then the faults of the fields, where an octet
 /// past `len` is needed too. At last `IncorrectRDataLengthRead` where octets are left over. The decoder then stays in
 /// place.
-#[tactic(auto, unfolding(crate::specs::RecordData::one_type_data_at, crate::specs::RecordData::fields_filling))]
+#[tactic(auto, using(crate::proofs::RowReaderLaws::checks_row))]
 pub fn check_row<T: TestedField>(
     decoder: &mut BinDecoder<'_>,
     len: u16,
@@ -207,27 +254,15 @@ pub fn check_row<T: TestedField>(
     jumps: &mut [u16],
 ) -> Result<(), DecodeError>
     requires jumps { AreJumps (octets decoder.old) jumps.old }
-    ensures exact { Reads (λ u. u) result decoder.old decoder.new
-        (without_value (one_type_data_at (form_fields T.field fields.now)
-        (octets decoder.old) (place decoder.old) len)) }
+    ensures checks { ChecksRow (form_fields T.field fields.now) len decoder.old decoder.new result }
     ensures jumps { AreJumps (octets decoder.old) jumps.new }
 {
-    let start = decoder.index();
-    let end = data_end(decoder, len)?;
-    let mut reader = *decoder;
-    check_fields(&mut reader, end, fields, jumps)?;
-    expect_end(&reader, start, end)?;
-    *decoder = reader;
-    Ok(())
+    pass_row(decoder, len, fields, jumps)
 }
 
-/// Checks the data of a record of type `rtype`, whose fields are these, `len` octets of them, and goes behind them.
-///
-/// # Errors
-///
-/// None where `len` is 0, for every type but TSIG. Otherwise those of `check_row`.
+/// Goes past the data of a record of type `rtype`, as the reading function does.
 #[tactic(auto, unfolding(crate::specs::RecordData::rdata_at))]
-pub fn check_rdata<T: TestedField>(
+fn pass_rdata<T: TestedField>(
     decoder: &mut BinDecoder<'_>,
     rtype: RecordType,
     len: u16,
@@ -236,12 +271,32 @@ pub fn check_rdata<T: TestedField>(
 ) -> Result<(), DecodeError>
     requires jumps { AreJumps (octets decoder.old) jumps.old }
     ensures exact { (table : Table) → form_fields T.field fields.now ≡ row_of table rtype
-        → Reads (λ u. u) result decoder.old decoder.new
+        → Reads (λ x. x) result decoder.old decoder.new
         (without_value (rdata_at table (octets decoder.old) (place decoder.old) len rtype)) }
     ensures jumps { AreJumps (octets decoder.old) jumps.new }
 {
     if len == 0 && rtype != RecordType::TSIG {
         return Ok(());
     }
-    check_row(decoder, len, fields, jumps)
+    pass_row(decoder, len, fields, jumps)
+}
+
+/// Checks the data of a record of type `rtype`, whose fields are these, `len` octets of them, and goes behind them.
+///
+/// # Errors
+///
+/// None where `len` is 0, for every type but TSIG. Otherwise those of `check_row`.
+pub fn check_rdata<T: TestedField>(
+    decoder: &mut BinDecoder<'_>,
+    rtype: RecordType,
+    len: u16,
+    fields: &[FieldForm<T>],
+    jumps: &mut [u16],
+) -> Result<(), DecodeError>
+    requires jumps { AreJumps (octets decoder.old) jumps.old }
+    ensures checks { (table : Table) → form_fields T.field fields.now ≡ row_of table rtype
+        → ChecksData table rtype len decoder.old decoder.new result }
+    ensures jumps { AreJumps (octets decoder.old) jumps.new }
+{
+    pass_rdata(decoder, rtype, len, fields, jumps)
 }
