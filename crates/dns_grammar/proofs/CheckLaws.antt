@@ -32,7 +32,7 @@ behind_string a b m p e within same = go (counted_at w8 m p e) refl
     go (Err fault) read = refl
 
 -- as many steps as there are octets are enough
-strings_enough : (a b : ℕ) (m : List ℕ) (p e : ℕ) → e ≤ length m → e ≤ p + a → e ≤ p + b
+pub strings_enough : (a b : ℕ) (m : List ℕ) (p e : ℕ) → e ≤ length m → e ≤ p + a → e ≤ p + b
     → strings_at a m p e ≡ strings_at b m p e
 strings_enough zero b m p e within h k = let le : e ≤ p = omega arith in strings_end zero m p e le
     ∙ sym (strings_end b m p e le)

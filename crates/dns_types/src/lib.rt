@@ -9,4 +9,5 @@ mod type_form;
 mod type_set;
 
 pub use codes::{DNSClass, RecordType};
+pub use type_blocks::is_bitmap;
 pub use type_set::{RecordTypeIter, RecordTypeSet};

@@ -104,9 +104,10 @@ fn bit_from(bits: &[u8], from: usize) -> Option<usize>
     None
 }
 
-/// Whether the octets are a bitmap.
+/// Whether the octets are a bitmap (RFC 4034 4.1.2): blocks of a window, a length from 1 to 32 and so many octets, one
+/// behind the other.
 #[tactic(auto, using(crate::proofs::TypeBlocks::bitmap_steps))]
-pub(crate) fn is_bitmap(octets: &[u8]) -> bool
+pub fn is_bitmap(octets: &[u8]) -> bool
     ensures { result ≡ is_bitmap octets.now }
 {
     let mut rest = octets;

@@ -4,12 +4,12 @@ ghost use Rattle.std.specs.Prelude.{◌≡◌, ◌≤◌, ◌++◌, length, take
 ghost use Rattle.dns_names.specs.Names.{wire, low};
 ghost use Rattle.dns_wire.specs.Reading.{octets, place, Gives, Reads};
 ghost use Rattle.dns_wire.specs.Writing.{Writes};
-ghost use Rattle.dns_grammar.specs.Fields.{fields_octets};
+ghost use Rattle.dns_grammar.specs.Fields.{Num, no_fault, fields_octets};
 ghost use Rattle.dns_grammar.specs.RecordData.{one_type_data_at};
 ghost use Rattle.sec_digest.specs.Digests.{digest_octets};
 ghost use Rattle.sec_keydata.specs.DnsKeys.{dnskey_fields};
 ghost use Rattle.sec_keydata.specs.KeyDigests.{fields_digest, secure_entry_key};
-ghost use Rattle.sec_keydata.specs.KeyRows.{dnskey_row};
+ghost use Rattle.sec_keydata.specs.KeyRows.{dnskey_row, protocol_fault};
 ghost use Rattle.sec_keydata.specs.KeyTags.{key_octets, fields_tag};
 ghost use Rattle.sec_keydata.specs.PublicKeyFields.{lent_fields, public_key_values, public_key_text};
 
@@ -26,6 +26,21 @@ use std::fmt;
 
 /// The protocol of each key (RFC 4034 2.1.2).
 const PROTOCOL: u8 = 3;
+
+/// Whether the protocol of a DNSKEY or CDNSKEY is 3 (RFC 4034 2.1.2).
+///
+/// # Errors
+///
+/// `DnsKeyProtocolNot3`.
+pub fn check_protocol(protocol: u8) -> Result<(), DecodeError>
+    ensures { result ≡ no_fault (protocol_fault (Num protocol)) }
+{
+    if protocol == PROTOCOL {
+        Ok(())
+    } else {
+        Err(DecodeError::DnsKeyProtocolNot3(protocol))
+    }
+}
 
 /// How many octets a key has at most: a record's data have 65,535 (RFC 1035 3.2.1), and four stand before the key.
 pub(crate) const LONGEST_KEY: usize = 65_531;
@@ -63,9 +78,7 @@ impl<'a> DnskeyFields<'a> {
         let mut reader = *decoder;
         let flags = reader.read_u16_within(end)?;
         let protocol = reader.read_u8_within(end)?;
-        if protocol != PROTOCOL {
-            return Err(DecodeError::DnsKeyProtocolNot3(protocol));
-        }
+        check_protocol(protocol)?;
         let algorithm = reader.read_u8_within(end)?;
         let public_key = reader.read_rest_within(end);
         *decoder = reader;

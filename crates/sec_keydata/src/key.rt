@@ -26,8 +26,12 @@ const RESERVED: u16 = 0x2cf0;
 /// The flag that says that more flags follow (RFC 2535 3.1.2).
 const EXTENDED: u16 = 0x1000;
 
-/// Whether flags have no reserved one, and don't say that more follow.
-fn check_flags(flags: u16) -> Result<(), DecodeError>
+/// Whether the flags of a KEY have no reserved one, and don't say that more follow (RFC 2535 3.1.2).
+///
+/// # Errors
+///
+/// `KeyFlagsReserved`, or else `ExtendedKeyFlagsUnsupported`.
+pub fn check_key_flags(flags: u16) -> Result<(), DecodeError>
     ensures { result ≡ no_fault (key_flags_fault (Num flags)) }
 {
     if flags & RESERVED != 0 {
@@ -160,7 +164,7 @@ impl KEY {
         let end = data_end(decoder, length)?;
         let mut reader = *decoder;
         let flags = reader.read_u16_within(end)?;
-        check_flags(flags)?;
+        check_key_flags(flags)?;
         let protocol = reader.read_u8_within(end)?;
         let algorithm = reader.read_u8_within(end)?;
         let public_key = Octets::from_slice(alloc, reader.read_rest_within(end))?;

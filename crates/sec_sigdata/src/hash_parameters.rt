@@ -70,6 +70,30 @@ impl HashParameters {
     }
 }
 
+/// Whether the number is that of a hash algorithm (RFC 5155 11).
+///
+/// # Errors
+///
+/// `UnknownNsec3HashAlgorithm` for any number but 1.
+pub fn check_hash_algorithm(number: u8) -> Result<(), DecodeError>
+    ensures { result ≡ no_fault (hash_algorithm_fault (Num number)) }
+{
+    hash_algorithm(number)?;
+    Ok(())
+}
+
+/// Whether the flags of an NSEC3 or NSEC3PARAM have no other one than Opt-Out (RFC 5155 3.1.2).
+///
+/// # Errors
+///
+/// `UnrecognizedNsec3Flags` for any flags but 0 and 1.
+pub fn check_nsec3_flags(flags: u8) -> Result<(), DecodeError>
+    ensures { result ≡ no_fault (nsec3_flags_fault (Num flags)) }
+{
+    opt_out(flags)?;
+    Ok(())
+}
+
 /// The hash algorithm of a number (RFC 5155 11).
 fn hash_algorithm(number: u8) -> Result<Nsec3HashAlgorithm, DecodeError>
     ensures test { Gives (λ _. tt) result (no_fault (hash_algorithm_fault (Num number))) }

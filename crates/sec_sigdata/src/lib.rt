@@ -20,6 +20,7 @@ mod type_list;
 
 pub use borrowed_tsig::BorrowedTsig;
 pub use error::{DnsSecError, DnsSecResult};
+pub use hash_parameters::{check_hash_algorithm, check_nsec3_flags};
 pub use nsec::NSEC;
 pub use nsec3::NSEC3;
 pub use nsec3param::NSEC3PARAM;
