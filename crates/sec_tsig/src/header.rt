@@ -53,7 +53,7 @@ impl Header {
 pub(crate) fn skip_query(decoder: &mut BinDecoder<'_>, jumps: &mut [u16]) -> Result<(), DecodeError>
     requires jumps { AreJumps (octets decoder.old) jumps.old }
     ensures jumps { AreJumps (octets decoder.old) jumps.new }
-    ensures exact { Reads (λ u. u) result decoder.old decoder.new
+    ensures exact { Reads (λ x. x) result decoder.old decoder.new
         (without_value (query_at (octets decoder.old) (place decoder.old))) }
 {
     let mut reader = *decoder;

@@ -55,7 +55,7 @@ pub(crate) fn skip_queries<'a>(
 fn skip_record(decoder: &mut BinDecoder<'_>, jumps: &mut [u16]) -> Result<(), DecodeError>
     requires jumps { AreJumps (octets decoder.old) jumps.old }
     ensures jumps { AreJumps (octets decoder.old) jumps.new }
-    ensures exact { Reads (λ u. u) result decoder.old decoder.new
+    ensures exact { Reads (λ x. x) result decoder.old decoder.new
         (without_value (record_at short_table false (octets decoder.old) (place decoder.old))) }
 {
     let mut reader = *decoder;

@@ -18,7 +18,7 @@ pub(crate) fn skip_rdata(
 ) -> Result<(), DecodeError>
     requires jumps { AreJumps (octets decoder.old) jumps.old }
     ensures jumps { AreJumps (octets decoder.old) jumps.new }
-    ensures exact { Reads (λ u. u) result decoder.old decoder.new
+    ensures exact { Reads (λ x. x) result decoder.old decoder.new
         (without_value (rdata_at short_table (octets decoder.old) (place decoder.old) length rtype)) }
 {
     check_rdata(decoder, rtype, length, short_row(rtype), jumps)
