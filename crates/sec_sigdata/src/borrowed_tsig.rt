@@ -2,6 +2,7 @@
 ghost use Rattle.std.specs.Prelude.{◌≡◌, ◌≤◌, length, IfOk};
 ghost use Rattle.dns_wire.specs.Reading.{octets, place, Gives};
 ghost use Rattle.dns_wire.specs.Writing.{Writes};
+ghost use Rattle.dns_names.specs.Jumps.{AreJumps};
 ghost use Rattle.dns_grammar.specs.Fields.{fields_octets};
 ghost use Rattle.dns_grammar.specs.RecordData.{fields_filling};
 ghost use Rattle.dns_grammar.specs.Tables.{tsig_row};
@@ -37,24 +38,29 @@ pub struct BorrowedTsig<'a> {
 impl<'a> BorrowedTsig<'a> {
     /// Reads the data of a TSIG record, which fill the octets up to `end`. It takes no memory.
     ///
+    /// Chains of pointers that were gone through before are known from `jumps`, and those that are met are noted there.
+    ///
     /// # Errors
     ///
     /// The first field that fails decides: `InsufficientBytes` where an octet is needed past `end`, the faults of
-    /// `Name::read_within` for the algorithm's name, and `IncorrectRDataLengthRead` where octets are left over.
+    /// `Name::read_with` for the algorithm's name, and `IncorrectRDataLengthRead` where octets are left over.
     #[tactic(auto, unfolding(dns_grammar::specs::RecordData::fields_filling))]
-    pub fn read_within(
+    pub fn read_with(
         mut reader: BinDecoder<'a>,
         end: usize,
+        jumps: &mut [u16],
     ) -> Result<BorrowedTsig<'a>, DecodeError>
         requires ahead { place reader ≤ end }
         requires inside { end ≤ length (octets reader) }
+        requires jumps { AreJumps (octets reader) jumps.old }
         ensures exact { Gives borrowed_values result
             (fields_filling tsig_row (octets reader.entry) (place reader.entry) end) }
         ensures named { IfOk result (λ tsig. TsigIsByNumber (borrowed_fields tsig)) }
         ensures fits { IfOk result (λ tsig. TsigFits (borrowed_fields tsig)) }
+        ensures jumps { AreJumps (octets reader.entry) jumps.new }
     {
         let start = reader.index();
-        let algorithm = Name::read_within(&mut reader, end)?;
+        let algorithm = Name::read_with(&mut reader, end, jumps)?;
         let time = reader.read_time_within(end)?;
         let fudge = reader.read_u16_within(end)?;
         let mac = reader.read_counted16_within(end)?;
@@ -71,6 +77,23 @@ impl<'a> BorrowedTsig<'a> {
             error: optional_error(error),
             other,
         })
+    }
+
+    /// Reads the data of a TSIG record, which fill the octets up to `end`. It takes no memory.
+    ///
+    /// # Errors
+    ///
+    /// The first field that fails decides: `InsufficientBytes` where an octet is needed past `end`, the faults of
+    /// `Name::read_within` for the algorithm's name, and `IncorrectRDataLengthRead` where octets are left over.
+    pub fn read_within(reader: BinDecoder<'a>, end: usize) -> Result<BorrowedTsig<'a>, DecodeError>
+        requires ahead { place reader ≤ end }
+        requires inside { end ≤ length (octets reader) }
+        ensures exact { Gives borrowed_values result
+            (fields_filling tsig_row (octets reader.entry) (place reader.entry) end) }
+        ensures named { IfOk result (λ tsig. TsigIsByNumber (borrowed_fields tsig)) }
+        ensures fits { IfOk result (λ tsig. TsigFits (borrowed_fields tsig)) }
+    {
+        BorrowedTsig::read_with(reader, end, &mut [])
     }
 
     /// The number of the error, and 0 for none (RFC 8945 4.2).

@@ -1,6 +1,7 @@
 //! NSEC records: which name is next in a zone, and which types there are at this one (RFC 4034 4).
-ghost use Rattle.std.specs.Prelude.{◌≡◌, ◌++◌, ◌∷◌, [], Some, IfOk};
+ghost use Rattle.std.specs.Prelude.{◌≡◌, ◌≤◌, ◌++◌, ◌∷◌, [], Some, IfOk, OnErr};
 ghost use Rattle.dns_wire.specs.Reading.{octets, place, ReadsUnless};
+ghost use Rattle.dns_names.specs.Jumps.{AreJumps};
 ghost use Rattle.dns_types.specs.TypeNumbers as numbers;
 ghost use Rattle.dns_types.specs.TypeSets.{form_of, is_one_of, types};
 ghost use Rattle.dns_grammar.specs.Fields.{fields_octets};
@@ -113,19 +114,47 @@ impl NSEC {
         })
     }
 
+    /// Reads the data of `length` octets at the decoder's place: the next name and the types.
+    ///
+    /// Chains of pointers that were gone through before are known from `jumps`, and those that are met are noted there.
+    ///
+    /// # Errors
+    ///
+    /// Those of `read_data`.
+    #[tactic(auto, using(dns_grammar::proofs::RowReaderLaws::reads_plain_row))]
+    pub fn read_with(
+        alloc: Global,
+        decoder: &mut BinDecoder<'_>,
+        length: u16,
+        jumps: &mut [u16],
+    ) -> Result<NSEC, DecodeError>
+        requires jumps { AreJumps (octets decoder.old) jumps.old }
+        ensures read { ReadsRow nsec_row (λ nsec. nsec_values (nsec_data nsec)) (λ _. Unit {0})
+            length decoder.old decoder.new result }
+        ensures octets { octets decoder.new ≡ octets decoder.old }
+        ensures forward { place decoder.old ≤ place decoder.new }
+        ensures refused { OnErr result (decoder.new ≡ decoder.old) }
+        ensures jumps { AreJumps (octets decoder.old) jumps.new }
+    {
+        NSEC::read_fields(alloc, decoder, length, jumps)
+    }
+
     /// Reads the fields of the data.
     #[tactic(auto, unfolding(dns_grammar::specs::RecordData::one_type_data_at, dns_grammar::specs::RecordData::fields_filling))]
     fn read_fields(
         alloc: Global,
         decoder: &mut BinDecoder<'_>,
         length: u16,
+        jumps: &mut [u16],
     ) -> Result<NSEC, DecodeError>
-        ensures { ReadsUnless (λ nsec. nsec_values (nsec_data nsec)) result decoder.old decoder.new
+        requires jumps { AreJumps (octets decoder.old) jumps.old }
+        ensures exact { ReadsUnless (λ nsec. nsec_values (nsec_data nsec)) result decoder.old decoder.new
             (one_type_data_at nsec_row (octets decoder.old) (place decoder.old) length) }
+        ensures jumps { AreJumps (octets decoder.old) jumps.new }
     {
         let end = data_end(decoder, length)?;
         let mut reader = *decoder;
-        let next_domain_name = Name::read_within(&mut reader, end)?;
+        let next_domain_name = Name::read_with(&mut reader, end, jumps)?;
         let types = RecordTypeSet::read_within(alloc, &mut reader, end)?;
         *decoder = reader;
         Ok(NSEC {
@@ -144,13 +173,12 @@ impl<'r> RecordDataDecodable<'r> for NSEC {
     ///
     /// `InsufficientBytes` where an octet is needed past the data, `NameMalformed`, `BitmapMalformed`, or
     /// `OutOfMemory`.
-    #[tactic(auto, using(dns_grammar::proofs::RowReaderLaws::reads_plain_row))]
     fn read_data(
         alloc: Global,
         decoder: &mut BinDecoder<'r>,
         length: u16,
     ) -> Result<NSEC, DecodeError> {
-        NSEC::read_fields(alloc, decoder, length)
+        NSEC::read_with(alloc, decoder, length, &mut [])
     }
 }
 

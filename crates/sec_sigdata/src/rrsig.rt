@@ -1,5 +1,7 @@
 //! RRSIG records: signatures of record sets (RFC 4034 3).
-ghost use Rattle.std.specs.Prelude.{◌≡◌, Some, IfOk};
+ghost use Rattle.std.specs.Prelude.{◌≡◌, ◌≤◌, Some, IfOk, OnErr};
+ghost use Rattle.dns_wire.specs.Reading.{octets, place};
+ghost use Rattle.dns_names.specs.Jumps.{AreJumps};
 ghost use Rattle.dns_grammar.specs.Fields.{fields_octets};
 ghost use Rattle.dns_grammar.specs.RowReaders.{ReadsRow};
 ghost use Rattle.sec_sigdata.specs.SignatureRows.{sig_row};
@@ -36,6 +38,30 @@ impl RRSIG {
     {
         Ok(RRSIG(self.0.try_clone()?))
     }
+
+    /// Reads the data of `length` octets at the decoder's place: the fields of a SIG.
+    ///
+    /// Chains of pointers that were gone through before are known from `jumps`, and those that are met are noted there.
+    ///
+    /// # Errors
+    ///
+    /// Those of `read_data`.
+    pub fn read_with(
+        alloc: Global,
+        decoder: &mut BinDecoder<'_>,
+        length: u16,
+        jumps: &mut [u16],
+    ) -> Result<RRSIG, DecodeError>
+        requires jumps { AreJumps (octets decoder.old) jumps.old }
+        ensures read { ReadsRow sig_row (λ rrsig. sig_values (rrsig_data rrsig))
+            (λ rrsig. SigIsByNumber (rrsig_data rrsig)) length decoder.old decoder.new result }
+        ensures octets { octets decoder.new ≡ octets decoder.old }
+        ensures forward { place decoder.old ≤ place decoder.new }
+        ensures refused { OnErr result (decoder.new ≡ decoder.old) }
+        ensures jumps { AreJumps (octets decoder.old) jumps.new }
+    {
+        Ok(RRSIG(SIG::read_with(alloc, decoder, length, jumps)?))
+    }
 }
 
 impl Deref for RRSIG {
@@ -58,7 +84,7 @@ impl<'r> RecordDataDecodable<'r> for RRSIG {
         decoder: &mut BinDecoder<'r>,
         length: u16,
     ) -> Result<RRSIG, DecodeError> {
-        Ok(RRSIG(SIG::read_fields(alloc, decoder, length)?))
+        RRSIG::read_with(alloc, decoder, length, &mut [])
     }
 }
 

@@ -1,6 +1,7 @@
 //! SIG records: signatures of messages (RFC 2931), and of record sets in the older form (RFC 2535 4).
-ghost use Rattle.std.specs.Prelude.{◌≡◌, Some, IfOk};
+ghost use Rattle.std.specs.Prelude.{◌≡◌, ◌≤◌, Some, IfOk, OnErr};
 ghost use Rattle.dns_wire.specs.Reading.{octets, place, ReadsUnless};
+ghost use Rattle.dns_names.specs.Jumps.{AreJumps};
 ghost use Rattle.dns_grammar.specs.Fields.{fields_octets};
 ghost use Rattle.dns_grammar.specs.RecordData.{one_type_data_at};
 ghost use Rattle.dns_grammar.specs.RowReaders.{ReadsRow};
@@ -9,13 +10,11 @@ ghost use Rattle.sec_sigdata.specs.Signatures.{sig_data, sig_values, sig_text, S
 
 use crate::sig_input::{KindText, SigInput, TimesText};
 use dns_grammar::{FieldOut, data_end, emit_fields};
-use dns_names::Name;
 use dns_text::Base64Text;
 use dns_wire::{
     BinDecoder, BinEncodable, BinEncoder, DecodeError, EmitError, Octets, OutOfMemory,
-    RecordDataDecodable, SerialNumber,
+    RecordDataDecodable,
 };
-use sec_codes::Algorithm;
 use std::alloc::Global;
 use std::fmt;
 
@@ -66,42 +65,51 @@ impl SIG {
         })
     }
 
-    /// Reads the fields of the data.
-    #[tactic(auto, unfolding(dns_grammar::specs::RecordData::one_type_data_at, dns_grammar::specs::RecordData::fields_filling))]
-    pub(crate) fn read_fields(
+    /// Reads the data of `length` octets at the decoder's place: the fields before the signature, and the signature.
+    ///
+    /// Chains of pointers that were gone through before are known from `jumps`, and those that are met are noted there.
+    ///
+    /// # Errors
+    ///
+    /// Those of `read_data`.
+    #[tactic(auto, using(dns_grammar::proofs::RowReaderLaws::reads_row))]
+    pub fn read_with(
         alloc: Global,
         decoder: &mut BinDecoder<'_>,
         length: u16,
+        jumps: &mut [u16],
     ) -> Result<SIG, DecodeError>
+        requires jumps { AreJumps (octets decoder.old) jumps.old }
+        ensures read { ReadsRow sig_row (λ sig. sig_values (sig_data sig)) (λ sig. SigIsByNumber (sig_data sig))
+            length decoder.old decoder.new result }
+        ensures octets { octets decoder.new ≡ octets decoder.old }
+        ensures forward { place decoder.old ≤ place decoder.new }
+        ensures refused { OnErr result (decoder.new ≡ decoder.old) }
+        ensures jumps { AreJumps (octets decoder.old) jumps.new }
+    {
+        SIG::read_fields(alloc, decoder, length, jumps)
+    }
+
+    /// Reads the fields of the data.
+    #[tactic(auto, unfolding(dns_grammar::specs::RecordData::one_type_data_at, dns_grammar::specs::RecordData::fields_filling))]
+    fn read_fields(
+        alloc: Global,
+        decoder: &mut BinDecoder<'_>,
+        length: u16,
+        jumps: &mut [u16],
+    ) -> Result<SIG, DecodeError>
+        requires jumps { AreJumps (octets decoder.old) jumps.old }
         ensures exact { ReadsUnless (λ sig. sig_values (sig_data sig)) result decoder.old decoder.new
             (one_type_data_at sig_row (octets decoder.old) (place decoder.old) length) }
         ensures by_number { IfOk result (λ sig. SigIsByNumber (sig_data sig)) }
+        ensures jumps { AreJumps (octets decoder.old) jumps.new }
     {
         let end = data_end(decoder, length)?;
         let mut reader = *decoder;
-        let type_covered = reader.read_u16_within(end)?;
-        let algorithm = reader.read_u8_within(end)?;
-        let num_labels = reader.read_u8_within(end)?;
-        let original_ttl = reader.read_u32_within(end)?;
-        let sig_expiration = reader.read_u32_within(end)?;
-        let sig_inception = reader.read_u32_within(end)?;
-        let key_tag = reader.read_u16_within(end)?;
-        let signer_name = Name::read_within(&mut reader, end)?;
+        let input = SigInput::read_with(&mut reader, end, jumps)?;
         let sig = Octets::from_slice(alloc, reader.read_rest_within(end))?;
         *decoder = reader;
-        Ok(SIG {
-            input: SigInput {
-                type_covered: type_covered.into(),
-                algorithm: Algorithm::from_u8(algorithm),
-                num_labels,
-                original_ttl,
-                sig_expiration: SerialNumber(sig_expiration),
-                sig_inception: SerialNumber(sig_inception),
-                key_tag,
-                signer_name,
-            },
-            sig,
-        })
+        Ok(SIG { input, sig })
     }
 }
 
@@ -114,13 +122,12 @@ impl<'r> RecordDataDecodable<'r> for SIG {
     /// # Errors
     ///
     /// `InsufficientBytes` where an octet is needed past the data, `NameMalformed`, or `OutOfMemory`.
-    #[tactic(auto, using(dns_grammar::proofs::RowReaderLaws::reads_row))]
     fn read_data(
         alloc: Global,
         decoder: &mut BinDecoder<'r>,
         length: u16,
     ) -> Result<SIG, DecodeError> {
-        SIG::read_fields(alloc, decoder, length)
+        SIG::read_with(alloc, decoder, length, &mut [])
     }
 }
 

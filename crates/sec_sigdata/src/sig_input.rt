@@ -1,12 +1,15 @@
 //! What stands before the signature in SIG and RRSIG records (RFC 2535 4.1, RFC 4034 3.1).
-ghost use Rattle.std.specs.Prelude.{◌≡◌, Some};
-ghost use Rattle.dns_grammar.specs.Fields.{fields_octets};
+ghost use Rattle.std.specs.Prelude.{◌≡◌, ◌≤◌, length, Some, IfOk};
+ghost use Rattle.dns_wire.specs.Reading.{octets, place, Reads};
+ghost use Rattle.dns_names.specs.Jumps.{AreJumps};
+ghost use Rattle.dns_grammar.specs.Fields.{fields_at, fields_octets};
+ghost use Rattle.sec_codes.specs.Algorithms.{number, algorithm_numbered};
 ghost use Rattle.sec_sigdata.specs.Signatures.{input_row, input_values, kind_text, times_text};
 
 use dns_grammar::{FieldOut, emit_fields};
 use dns_names::Name;
 use dns_types::RecordType;
-use dns_wire::{BinEncodable, BinEncoder, EmitError, SerialNumber};
+use dns_wire::{BinDecoder, BinEncodable, BinEncoder, DecodeError, EmitError, SerialNumber};
 use sec_codes::Algorithm;
 use std::fmt;
 
@@ -29,6 +32,46 @@ pub struct SigInput {
     pub key_tag: u16,
     /// The name of the key that signed (RFC 4034 3.1.7).
     pub signer_name: Name,
+}
+
+impl SigInput {
+    /// Reads type covered, algorithm, labels, original TTL, expiration, inception, key tag and signer's name of data
+    /// that end at `end`, the name through known jumps.
+    pub(crate) fn read_with(
+        decoder: &mut BinDecoder<'_>,
+        end: usize,
+        jumps: &mut [u16],
+    ) -> Result<SigInput, DecodeError>
+        requires ahead { place decoder.old ≤ end }
+        requires inside { end ≤ length (octets decoder.old) }
+        requires jumps { AreJumps (octets decoder.old) jumps.old }
+        ensures exact { Reads input_values result decoder.old decoder.new
+            (fields_at input_row (octets decoder.old) (place decoder.old) end) }
+        ensures by_number { IfOk result (λ input. input.algorithm ≡ algorithm_numbered (number input.algorithm)) }
+        ensures inside { place decoder.new ≤ end }
+        ensures jumps { AreJumps (octets decoder.old) jumps.new }
+    {
+        let mut reader = *decoder;
+        let type_covered = reader.read_u16_within(end)?;
+        let algorithm = reader.read_u8_within(end)?;
+        let num_labels = reader.read_u8_within(end)?;
+        let original_ttl = reader.read_u32_within(end)?;
+        let sig_expiration = reader.read_u32_within(end)?;
+        let sig_inception = reader.read_u32_within(end)?;
+        let key_tag = reader.read_u16_within(end)?;
+        let signer_name = Name::read_with(&mut reader, end, jumps)?;
+        *decoder = reader;
+        Ok(SigInput {
+            type_covered: type_covered.into(),
+            algorithm: Algorithm::from_u8(algorithm),
+            num_labels,
+            original_ttl,
+            sig_expiration: SerialNumber(sig_expiration),
+            sig_inception: SerialNumber(sig_inception),
+            key_tag,
+            signer_name,
+        })
+    }
 }
 
 /// The fields are written as in a signature's data, in canonical form with the signer's name in lower case (RFC 4034

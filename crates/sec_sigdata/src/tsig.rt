@@ -1,7 +1,8 @@
 //! TSIG records: the signature of a message (RFC 8945).
-ghost use Rattle.std.specs.Prelude.{◌≡◌, Some, IfOk};
+ghost use Rattle.std.specs.Prelude.{◌≡◌, ◌≤◌, Some, IfOk, OnErr};
 ghost use Rattle.dns_wire.specs.Writing.{Writes};
 ghost use Rattle.dns_wire.specs.Reading.{octets, place, ReadsUnless};
+ghost use Rattle.dns_names.specs.Jumps.{AreJumps};
 ghost use Rattle.dns_grammar.specs.Fields.{fields_octets};
 ghost use Rattle.dns_grammar.specs.RecordData.{one_type_data_at};
 ghost use Rattle.dns_grammar.specs.RowReaders.{ReadsRow};
@@ -135,21 +136,51 @@ impl TSIG {
         emit_variables(encoder, &key_name.to_lowercase(), &algorithm, self)
     }
 
+    /// Reads the data of `length` octets at the decoder's place: algorithm name, time, fudge, MAC, original ID, error and
+    /// other data.
+    ///
+    /// Chains of pointers that were gone through before are known from `jumps`, and those that are met are noted there.
+    ///
+    /// # Errors
+    ///
+    /// Those of `read_data`.
+    #[tactic(auto, using(dns_grammar::proofs::RowReaderLaws::reads_row))]
+    pub fn read_with(
+        alloc: Global,
+        decoder: &mut BinDecoder<'_>,
+        length: u16,
+        jumps: &mut [u16],
+    ) -> Result<TSIG, DecodeError>
+        requires jumps { AreJumps (octets decoder.old) jumps.old }
+        ensures read { ReadsRow tsig_row (λ tsig. tsig_values (tsig_data tsig))
+            (λ tsig. TsigIsByNumber (tsig_fields tsig)) length decoder.old decoder.new result }
+        ensures fits { IfOk result (λ tsig. TsigFits (tsig_fields tsig)) }
+        ensures octets { octets decoder.new ≡ octets decoder.old }
+        ensures forward { place decoder.old ≤ place decoder.new }
+        ensures refused { OnErr result (decoder.new ≡ decoder.old) }
+        ensures jumps { AreJumps (octets decoder.old) jumps.new }
+    {
+        TSIG::read_fields(alloc, decoder, length, jumps)
+    }
+
     /// Reads the fields of the data.
     #[tactic(auto, unfolding(dns_grammar::specs::RecordData::one_type_data_at))]
     fn read_fields(
         alloc: Global,
         decoder: &mut BinDecoder<'_>,
         length: u16,
+        jumps: &mut [u16],
     ) -> Result<TSIG, DecodeError>
+        requires jumps { AreJumps (octets decoder.old) jumps.old }
         ensures exact { ReadsUnless (λ tsig. tsig_values (tsig_data tsig)) result decoder.old decoder.new
             (one_type_data_at tsig_row (octets decoder.old) (place decoder.old) length) }
         ensures by_number { IfOk result (λ tsig. TsigIsByNumber (tsig_fields tsig)) }
         ensures fits { IfOk result (λ tsig. TsigFits (tsig_fields tsig)) }
+        ensures jumps { AreJumps (octets decoder.old) jumps.new }
     {
         let end = data_end(decoder, length)?;
         // A `match`, since the check has no rule for `?` at a value that holds a name and a reference.
-        match BorrowedTsig::read_within(*decoder, end) {
+        match BorrowedTsig::read_with(*decoder, end, jumps) {
             Ok(view) => {
                 let mac = Vec::from_slice(alloc, view.mac)?;
                 let other = Vec::from_slice(alloc, view.other)?;
@@ -209,13 +240,12 @@ impl<'r> RecordDataDecodable<'r> for TSIG {
     /// that fails decides: `InsufficientBytes` where an octet is needed past the data, the faults of
     /// `Name::read_within` for the algorithm's name, and `IncorrectRDataLengthRead` where octets are left over. Or
     /// `OutOfMemory`.
-    #[tactic(auto, using(dns_grammar::proofs::RowReaderLaws::reads_row))]
     fn read_data(
         alloc: Global,
         decoder: &mut BinDecoder<'r>,
         length: u16,
     ) -> Result<TSIG, DecodeError> {
-        TSIG::read_fields(alloc, decoder, length)
+        TSIG::read_with(alloc, decoder, length, &mut [])
     }
 }
 

@@ -1,9 +1,0 @@
-use Rattle.std.proofs.Common.{rules}
-use Rattle.dns_grammar.proofs.RowReaderLaws.{reads_row}
-use Rattle.sec_sigdata.proofs.rrsig.RRSIGRecordDataDecodable.read_data.Goals as goal
-
-pub returns-in_err-read_fields-clause-read : goal.returns-in_err-read_fields-clause-read
-returns-in_err-read_fields-clause-read c = reads_row _ _ _ _ _ _ _ (search rules) (search rules)
-
-pub returns-clause-read : goal.returns-clause-read
-returns-clause-read c = reads_row _ _ _ _ _ _ _ c.in_ok-read_fields.ensures.exact c.in_ok-read_fields.ensures.by_number
