@@ -1,7 +1,7 @@
 use Rattle.std.proofs.Common.{take}
 use Rattle.std.specs.List.{flat_map}
 use Rattle.sec_digest.specs.Hmac.{Feeds}
-use Rattle.sec_tests.proofs.digest.mac_of_pieces.Given as goal
+use Rattle.code_tests.proofs.digest.mac_of_pieces.Given as goal
 
 -- the pieces so far are taken in
 abbrev pub invariant-loop-piece : goal.invariant-loop-piece

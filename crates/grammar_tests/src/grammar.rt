@@ -107,7 +107,7 @@ fn data_end_where_their_length_says(rt: HostRuntime) -> Result<(), Fail> {
 struct Protocol;
 
 impl TestedField for Protocol {
-    ghost use Rattle.dns_tests.specs.Protocols.{protocol_field};
+    ghost use Rattle.grammar_tests.specs.Protocols.{protocol_field};
 
     ghost field = { λ _. protocol_field };
 
