@@ -1,0 +1,4 @@
+pub mod Strings
+pub mod OneReadingValues
+pub mod OneReading
+pub mod TableLaws

@@ -1,0 +1,6 @@
+pub mod RDataTable
+pub mod DataTests
+pub mod PlainData
+pub mod RData
+pub mod Texts
+pub mod OneReading

@@ -1,0 +1,7 @@
+//! Tests of the data of records of every type.
+#![tactic(auto)]
+
+mod canonical;
+mod faults;
+mod rows;
+mod values;
