@@ -29,7 +29,7 @@ fn relates_names(rt: HostRuntime) -> Result<(), Fail> {
 }
 
 #[test]
-fn cuts_and_prepends(rt: HostRuntime) -> Result<(), Fail> {
+fn cuts_names(rt: HostRuntime) -> Result<(), Fail> {
     let name = Name::from_ascii("a.B.c.")?;
     for (n, text) in [
         (0, "."),
@@ -44,7 +44,12 @@ fn cuts_and_prepends(rt: HostRuntime) -> Result<(), Fail> {
     assert!(rt; name == lower && !name.eq_case(&lower));
     assert!(rt; LowerName::new(&name) == LowerName::from(&lower));
     assert!(rt; LowerName::new(&Name::root()).is_root());
+    Ok(())
+}
 
+#[test]
+fn prepends_labels(rt: HostRuntime) -> Result<(), Fail> {
+    let name = Name::from_ascii("a.B.c.")?;
     let label = Label::from_bytes(b"d.e")?;
     let longer = name.trim_to(1).prepend(&label)?;
     assert!(rt; longer.eq_case(&Name::from_ascii(r"d\.e.c.")?));

@@ -76,10 +76,8 @@ fn data_value<'r, T: RecordDataDecodable<'r>>(
 }
 
 #[test]
-fn writes_and_reads_through_bounds(rt: HostRuntime) -> Result<(), Fail> {
+fn reads_through_bounds(rt: HostRuntime) -> Result<(), Fail> {
     let alloc = rt.alloc();
-    let octets = lowered_octets(alloc, &Name::from_ascii("Ex.")?)?;
-    assert_eq!(rt; octets.as_slice(), b"\x02ex\x00".as_slice());
     let number: Number = first_value(alloc, b"\x12\x34\xff")?;
     assert_eq!(rt; number.0, 4660);
     let number: Number = data_value(alloc, b"\x12\x34")?;
@@ -89,18 +87,25 @@ fn writes_and_reads_through_bounds(rt: HostRuntime) -> Result<(), Fail> {
     Ok(())
 }
 
-#[test]
-fn writes_numbers_and_holds_octets(rt: HostRuntime) -> Result<(), Fail> {
-    let mut encoder = BinEncoder::new(rt.alloc());
+/// Numbers of each width, and an octet.
+fn numbers_and_octet(alloc: Global) -> Result<Vec<u8>, EmitError> {
+    let mut encoder = BinEncoder::new(alloc);
     encoder.emit_u8(1)?;
     encoder.emit_u16(4660)?;
     encoder.emit_u32(1000)?;
     encoder.emit_vec(b"\xff")?;
-    assert_eq!(rt;
-        encoder.as_slice(),
-        b"\x01\x12\x34\x00\x00\x03\xe8\xff".as_slice()
-    );
-    let octets = Octets::from_slice(rt.alloc(), b"\x01\x02")?;
+    Ok(encoder.into_bytes())
+}
+
+#[test]
+fn writes_numbers_and_names_and_holds_octets(rt: HostRuntime) -> Result<(), Fail> {
+    let alloc = rt.alloc();
+    let octets = numbers_and_octet(alloc)?;
+    let numbers = b"\x01\x12\x34\x00\x00\x03\xe8\xff".as_slice();
+    assert_eq!(rt; octets.as_slice(), numbers);
+    let octets = lowered_octets(alloc, &Name::from_ascii("Ex.")?)?;
+    assert_eq!(rt; octets.as_slice(), b"\x02ex\x00".as_slice());
+    let octets = Octets::from_slice(alloc, b"\x01\x02")?;
     assert_eq!(rt; octets.as_slice(), b"\x01\x02".as_slice());
     assert_eq!(rt; octets.len(), 2);
     assert!(rt; octets.try_clone()? == octets);

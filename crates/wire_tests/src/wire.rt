@@ -5,8 +5,9 @@ ghost use Rattle.dns_names.specs.Jumps.{AreJumps};
 use dns_names::{Label, Name, with_jumps};
 use dns_types::{DNSClass, RecordType};
 use dns_wire::{
-    BinDecoder, BinEncodable, BinEncoder, DecodeError, NameEncoding, NameError, Octets,
+    BinDecoder, BinEncodable, BinEncoder, DecodeError, EmitError, NameEncoding, NameError, Octets,
 };
+use std::alloc::Global;
 use std::collections::{BTreeMap, BTreeSet};
 use std::test::Fail;
 
@@ -128,23 +129,39 @@ fn goes_through_a_chain_of_pointers_once(rt: HostRuntime) -> Result<(), Fail> {
 }
 
 #[test]
-fn keeps_names_to_their_limits(rt: HostRuntime) -> Result<(), Fail> {
+fn keeps_labels_to_their_limits(rt: HostRuntime) -> Result<(), Fail> {
     let octets = [b'a'; 64];
     let longest = Label::from_bytes(&octets[..63])?;
     assert_eq!(rt; longest.as_slice().len(), 63);
     assert!(rt; matches!(Label::from_bytes(&octets), Err(NameError::LabelTooLong)));
     assert!(rt; matches!(Label::from_bytes(b""), Err(NameError::EmptyLabel)));
+    Ok(())
+}
 
+/// Three labels of 63 octets `a`, and one of so many.
+fn long_labels(last: usize) -> Result<[Label; 4], NameError>
+    requires { last ≤ 63 }
+{
+    let octets = [b'a'; 63];
+    let longest = Label::from_bytes(&octets)?;
+    let last = Label::from_bytes(&octets[..last])?;
+    Ok([longest, longest, longest, last])
+}
+
+#[test]
+fn keeps_names_to_their_limits(rt: HostRuntime) -> Result<(), Fail> {
     // 3 * 64 + 62 + 1 octets, and one more
-    let last = Label::from_bytes(&octets[..61])?;
-    let name = Name::from_labels(&[longest, longest, longest, last])?;
+    let name = Name::from_labels(&long_labels(61)?)?;
     assert_eq!(rt; name.len(), 255);
     assert_eq!(rt; name.iter().count(), 4);
-    let longer = Label::from_bytes(&octets[..62])?;
-    let refused = Name::from_labels(&[longest, longest, longest, longer]);
+    let refused = Name::from_labels(&long_labels(62)?);
     assert!(rt; matches!(refused, Err(NameError::NameTooLong)));
+    Ok(())
+}
 
-    // the same of what is read
+#[test]
+fn keeps_read_names_to_their_limits(rt: HostRuntime) -> Result<(), Fail> {
+    let name = Name::from_labels(&long_labels(61)?)?;
     let mut encoder = BinEncoder::new(rt.alloc());
     name.emit(&mut encoder)?;
     assert_eq!(rt; encoder.len(), 255);
@@ -185,6 +202,11 @@ fn reads_and_writes_text(rt: HostRuntime) -> Result<(), Fail> {
         let out = format!(in rt.alloc(); "{name}")?;
         assert_eq!(rt; out.as_str(), shown);
     }
+    Ok(())
+}
+
+#[test]
+fn refuses_other_texts(rt: HostRuntime) {
     let faults = [
         ("", NameError::EmptyLabel),
         ("..", NameError::EmptyLabel),
@@ -201,15 +223,24 @@ fn reads_and_writes_text(rt: HostRuntime) -> Result<(), Fail> {
     for (text, fault) in faults {
         assert!(rt; Name::from_ascii(text) == Err(fault), "{text}");
     }
+}
+
+/// A label of 62 octets.
+const LABEL: &str = "a23456789b23456789c23456789d23456789e23456789f23456789g2345678";
+
+#[test]
+fn keeps_texts_to_the_limits_of_names(rt: HostRuntime) -> Result<(), Fail> {
     // four labels of 62 octets make a wire form of 253
-    let label = "a23456789b23456789c23456789d23456789e23456789f23456789g2345678";
-    let four = format!(in rt.alloc(); "{label}.{label}.{label}.{label}")?;
-    assert_eq!(rt; Name::from_ascii(four.as_str())?.len(), 4 * 63 + 1);
-    let more = format!(in rt.alloc(); "{label}.{label}.{label}.{label}.a")?;
-    assert_eq!(rt; Name::from_ascii(more.as_str())?.len(), 255);
-    let too_long = format!(in rt.alloc(); "{label}.{label}.{label}.{label}.ab")?;
-    assert!(rt; Name::from_ascii(too_long.as_str()) == Err(NameError::NameTooLong));
-    let wide = format!(in rt.alloc(); "{label}mn")?;
+    let ends = [
+        ("", Ok(4 * 63 + 1)),
+        (".a", Ok(255)),
+        (".ab", Err(NameError::NameTooLong)),
+    ];
+    for (end, len) in ends {
+        let text = format!(in rt.alloc(); "{LABEL}.{LABEL}.{LABEL}.{LABEL}{end}")?;
+        assert!(rt; Name::from_ascii(text.as_str()).map(|name| name.len()) == len);
+    }
+    let wide = format!(in rt.alloc(); "{LABEL}mn")?;
     assert!(rt; Name::from_ascii(wide.as_str()) == Err(NameError::LabelTooLong));
     Ok(())
 }
@@ -245,9 +276,12 @@ fn orders_names(rt: HostRuntime) -> Result<(), Fail> {
     Ok(())
 }
 
-#[test]
-fn writes_and_reads_numbers(rt: HostRuntime) -> Result<(), Fail> {
-    let mut encoder = BinEncoder::new(rt.alloc());
+/// Numbers, octets, and the name `a.bc.`
+const NUMBERS: &[u8] = b"\x01\xff\xfe\x04\x05\x06\x07abcr\x01a\x02bc\x00";
+
+/// These octets written, the second number in place of another, and the name in lower case.
+fn numbers_and_name(alloc: Global, name: &Name) -> Result<Vec<u8>, EmitError> {
+    let mut encoder = BinEncoder::new(alloc);
     encoder.emit_u8(1)?;
     encoder.emit_u16(0x0203)?;
     encoder.emit_u32(0x0405_0607)?;
@@ -256,18 +290,31 @@ fn writes_and_reads_numbers(rt: HostRuntime) -> Result<(), Fail> {
     encoder.place_u16(1, 0xfffe);
     encoder.truncate(11);
     encoder.set_name_encoding(NameEncoding::UncompressedLowercase);
+    name.emit(&mut encoder)?;
+    Ok(encoder.into_bytes())
+}
+
+#[test]
+fn writes_numbers(rt: HostRuntime) -> Result<(), Fail> {
+    let octets = numbers_and_name(rt.alloc(), &Name::from_ascii("A.bC")?)?;
+    assert_eq!(rt; octets.as_slice(), NUMBERS);
+    let mut encoder = BinEncoder::new(rt.alloc());
+    encoder.set_name_encoding(NameEncoding::UncompressedLowercase);
     assert!(rt; encoder.name_encoding() == NameEncoding::UncompressedLowercase);
-    Name::from_ascii("A.bC")?.emit(&mut encoder)?;
     encoder.set_canonical_form(true);
     assert!(rt; encoder.is_canonical_form());
-    let octets = encoder.into_bytes();
-    let want: &[u8] = b"\x01\xff\xfe\x04\x05\x06\x07abcr\x01a\x02bc\x00";
-    assert_eq!(rt; octets.as_slice(), want);
+    Ok(())
+}
 
-    let mut decoder = BinDecoder::new(octets.as_slice());
-    assert_eq!(rt; decoder.read_u8()?, 1);
-    assert_eq!(rt; decoder.read_u16()?, 0xfffe);
-    assert_eq!(rt; decoder.read_u32()?, 0x0405_0607);
+/// A number of each width.
+fn three_numbers(decoder: &mut BinDecoder<'_>) -> Result<(u8, u16, u32), DecodeError> {
+    Ok((decoder.read_u8()?, decoder.read_u16()?, decoder.read_u32()?))
+}
+
+#[test]
+fn reads_numbers(rt: HostRuntime) -> Result<(), Fail> {
+    let mut decoder = BinDecoder::new(NUMBERS);
+    assert_eq!(rt; three_numbers(&mut decoder)?, (1, 0xfffe, 0x0405_0607));
     assert_eq!(rt; decoder.len(), 10);
     let refused = decoder.read_slice(11);
     assert!(rt; matches!(refused, Err(DecodeError::InsufficientBytes)));
