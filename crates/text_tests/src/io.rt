@@ -49,37 +49,53 @@ fn standard_streams(rt: HostRuntime) -> Result<(), Fail> {
     write_all(&mut sink, b"fault\n")?;
     assert_eq!(rt; sink.write(b""), Ok(0));
     assert_eq!(rt; written.as_slice(), b"fault\n".as_slice());
-
-    // A reader that fails, and a writer that takes nothing.
-    let mut source = StdSource::new(Failing { calls: 0 });
-    assert_eq!(rt; read_all(alloc, &mut source).err(), Some(ReadError::Fault));
-    let mut sink = StdSink::new(Failing { calls: 0 });
-    assert_eq!(rt; write_all(&mut sink, b"fault\n"), Err(Failed));
     Ok(())
 }
 
+// A reader that fails, and a writer that takes nothing.
 #[test]
-fn sources_and_a_sink_in_memory(rt: HostRuntime) -> Result<(), Fail> {
+fn failing_streams(rt: HostRuntime) {
+    let mut source = StdSource::new(Failing { calls: 0 });
+    assert_eq!(rt;
+        read_all(rt.alloc(), &mut source).err(),
+        Some(ReadError::Fault)
+    );
+    let mut sink = StdSink::new(Failing { calls: 0 });
+    assert_eq!(rt; write_all(&mut sink, b"fault\n"), Err(Failed));
+}
+
+#[test]
+fn sources_in_memory(rt: HostRuntime) -> Result<(), Fail> {
     let alloc = rt.alloc();
     let octets = Vec::from_slice(alloc, b"abcdef".as_slice())?;
     let mut source = MemSource::new(octets, Vec::from_array(alloc, [2])?, 4);
     let mut buf = [0; 5];
-    assert_eq!(rt; source.read(&mut buf), Ok(4));
-    assert_eq!(rt; source.read(&mut buf), Err(Failed));
-    assert_eq!(rt; source.read(&mut buf), Ok(2));
+    for answer in [Ok(4), Err(Failed), Ok(2)] {
+        assert_eq!(rt; source.read(&mut buf), answer);
+    }
     assert_eq!(rt; buf, *b"efcd\0");
     assert_eq!(rt; source.read(&mut buf), Ok(0));
 
     let mut source = PlainSource::new(Vec::from_slice(alloc, b"abcdef".as_slice())?);
     assert_eq!(rt; source.read(&mut buf), Ok(5));
     assert_eq!(rt; buf, *b"abcde");
+    Ok(())
+}
 
+#[test]
+fn a_sink_in_memory(rt: HostRuntime) -> Result<(), Fail> {
+    let alloc = rt.alloc();
     let buffer = vec![in alloc; 0; 7]?;
     let mut sink = MemSink::new(buffer, Vec::from_array(alloc, [2])?, 4);
-    assert_eq!(rt; sink.write(b"abcdef"), Ok(4));
-    assert_eq!(rt; sink.write(b"ef"), Err(Failed));
-    assert_eq!(rt; sink.write(b"efgh"), Ok(3));
-    assert_eq!(rt; sink.write(b"h"), Err(Failed));
+    let pieces = [
+        (b"abcdef".as_slice(), Ok(4)),
+        (b"ef", Err(Failed)),
+        (b"efgh", Ok(3)),
+        (b"h", Err(Failed)),
+    ];
+    for (piece, answer) in pieces {
+        assert_eq!(rt; sink.write(piece), answer);
+    }
     assert_eq!(rt; sink.as_slice(), b"abcdefg".as_slice());
     Ok(())
 }
