@@ -3,5 +3,6 @@
 
 mod canonical;
 mod faults;
+mod jumps;
 mod rows;
 mod values;
