@@ -1,45 +1,67 @@
--- What a contract sees of record data: the type, the fields, and their values.
+-- What a contract sees of record data: the type, the fields, their values, and the text.
 use Rattle.std.specs.Prelude.{◌≡◌, ◌≢◌, ℕ, List, [], ◌∷◌, Option, Some, None, Result, Ok}
+use Rattle.std.specs.Net.Addr.{segments_of}
+use Rattle.std.specs.Net.Text.{ipv4_text, ipv6_text}
+use Rattle.base64.specs.Engines.{standard}
+use Rattle.base64.specs.GeneralPurpose.{encode_of}
 use Rattle.dns_wire.specs.declared.error.DecodeError.{DecodeError}
 use Rattle.dns_wire.specs.Lookup.{lookup}
 use Rattle.dns_wire.specs.Reading.{◌>>=◌}
+use Rattle.dns_names.specs.NameText.{name_text}
 use Rattle.dns_types.specs.TypeNumbers as types
 use Rattle.dns_grammar.specs.Fields.{Value, Str, Field, Table, unknown_row, row_of}
 use Rattle.dns_grammar.specs.Messages.{tsig_values}
 use Rattle.dns_grammar.specs.RecordData.{tsig_type, one_type_data_at}
-use Rattle.sec_keydata.specs.DnsKeys.{dnskey_data, dnskey_values, DnsKeyIsByNumber}
-use Rattle.sec_keydata.specs.DnsKeys.{cdnskey_data, cdnskey_values, CdnsKeyIsByNumber}
-use Rattle.sec_keydata.specs.DsData.{ds_data, ds_values, DsIsByNumber, cds_data, cds_values, CdsIsByNumber}
-use Rattle.sec_keydata.specs.KeyData.{key_data, key_values, KeyIsByNumber}
-use Rattle.sec_sigdata.specs.HashParameters.{nsec3param_data, hash_values}
-use Rattle.sec_sigdata.specs.Nsec.{nsec_data, nsec_values}
-use Rattle.sec_sigdata.specs.Nsec3.{nsec3_data, nsec3_values}
-use Rattle.sec_sigdata.specs.Signatures.{sig_data, rrsig_data, sig_values, SigIsByNumber}
-use Rattle.sec_sigdata.specs.TsigRecords.{tsig_data, tsig_fields, TsigIsByNumber, TsigFits}
+use Rattle.sec_keydata.specs.DnsKeys.{dnskey_data, dnskey_values, dnskey_text, DnsKeyIsByNumber}
+use Rattle.sec_keydata.specs.DnsKeys.{cdnskey_data, cdnskey_values, cdnskey_text, CdnsKeyIsByNumber}
+use Rattle.sec_keydata.specs.DsData.{ds_data, ds_values, ds_text, DsIsByNumber, cds_data, cds_values, cds_text, CdsIsByNumber}
+use Rattle.sec_keydata.specs.KeyData.{key_data, key_values, key_text, KeyIsByNumber}
+use Rattle.sec_sigdata.specs.HashParameters.{nsec3param_data, hash_values, hash_text}
+use Rattle.sec_sigdata.specs.Nsec.{nsec_data, nsec_values, nsec_text}
+use Rattle.sec_sigdata.specs.Nsec3.{nsec3_data, nsec3_values, nsec3_text}
+use Rattle.sec_sigdata.specs.Signatures.{sig_data, rrsig_data, sig_values, sig_text, SigIsByNumber}
+use Rattle.sec_sigdata.specs.TsigRecords.{tsig_data, tsig_fields, tsig_text, TsigIsByNumber, TsigFits}
 use Rattle.dns_rdata.specs.declared.dnssec_rdata.DNSSECRData.{DNSSECRData}
 use Rattle.dns_rdata.specs.declared.dnssec_rdata.DNSSECRData.TheVariants as dnssec
 use Rattle.dns_rdata.specs.declared.rdata.RData.{RData}
 use Rattle.dns_rdata.specs.declared.rdata.RData.TheVariants as rdata
 use Rattle.dns_rdata.specs.PlainData.{name_values, mx_values, afsdb_values, rt_values, kx_values, px_values}
 use Rattle.dns_rdata.specs.PlainData.{minfo_values, rp_values, soa_values, srv_values, naptr_values, txt_values}
-use Rattle.dns_rdata.specs.PlainData.{txt_strings, null_values}
+use Rattle.dns_rdata.specs.PlainData.{txt_strings, null_octets, null_values}
 use Rattle.dns_rdata.specs.RDataTable.{rdata_table}
+use Rattle.dns_rdata.specs.Texts.{unknown_text, strings_text, number_name_text, two_names_text}
+use Rattle.dns_rdata.specs.Texts.{number_two_names_text, soa_text, srv_text, naptr_text}
+
+-- what a contract sees of record data: the type of a record that has them, the values of the fields, and the text
+pub record DataView : Type 0 where
+  pub rtype : ℕ
+  pub values : List Value
+  pub text : List ℕ
+
+abbrev view : ℕ → List Value → List ℕ → DataView
+view rtype values text = record { rtype = rtype; values = values; text = text }
 
 -- ---- the data of DNSSEC
 
+-- each type: its number, the values of its fields, its text
+abbrev pub dnssec_view : DNSSECRData → DataView
+dnssec_view (dnssec.CDNSKEY key) =
+    view types.CDNSKEY (cdnskey_values (cdnskey_data key)) (cdnskey_text (cdnskey_data key))
+dnssec_view (dnssec.CDS cds) = view types.CDS (cds_values (cds_data cds)) (cds_text (cds_data cds))
+dnssec_view (dnssec.DNSKEY key) = view types.DNSKEY (dnskey_values (dnskey_data key)) (dnskey_text (dnskey_data key))
+dnssec_view (dnssec.DS ds) = view types.DS (ds_values (ds_data ds)) (ds_text (ds_data ds))
+dnssec_view (dnssec.KEY key) = view types.KEY (key_values (key_data key)) (key_text (key_data key))
+dnssec_view (dnssec.NSEC nsec) = view types.NSEC (nsec_values (nsec_data nsec)) (nsec_text (nsec_data nsec))
+dnssec_view (dnssec.NSEC3 nsec3) = view types.NSEC3 (nsec3_values (nsec3_data nsec3)) (nsec3_text (nsec3_data nsec3))
+dnssec_view (dnssec.NSEC3PARAM param) =
+    view types.NSEC3PARAM (hash_values (nsec3param_data param)) (hash_text (nsec3param_data param))
+dnssec_view (dnssec.RRSIG rrsig) = view types.RRSIG (sig_values (rrsig_data rrsig)) (sig_text (rrsig_data rrsig))
+dnssec_view (dnssec.SIG sig) = view types.SIG (sig_values (sig_data sig)) (sig_text (sig_data sig))
+dnssec_view (dnssec.Unknown code null) = view code (null_values null) (encode_of standard (null_octets null))
+
 -- the type of a record that has the data
 abbrev pub dnssec_type : DNSSECRData → ℕ
-dnssec_type (dnssec.CDNSKEY _) = types.CDNSKEY
-dnssec_type (dnssec.CDS _) = types.CDS
-dnssec_type (dnssec.DNSKEY _) = types.DNSKEY
-dnssec_type (dnssec.DS _) = types.DS
-dnssec_type (dnssec.KEY _) = types.KEY
-dnssec_type (dnssec.NSEC _) = types.NSEC
-dnssec_type (dnssec.NSEC3 _) = types.NSEC3
-dnssec_type (dnssec.NSEC3PARAM _) = types.NSEC3PARAM
-dnssec_type (dnssec.RRSIG _) = types.RRSIG
-dnssec_type (dnssec.SIG _) = types.SIG
-dnssec_type (dnssec.Unknown code _) = code
+dnssec_type x = (dnssec_view x).rtype
 
 -- the fields of the data
 abbrev pub dnssec_row : DNSSECRData → List Field
@@ -48,17 +70,11 @@ dnssec_row known = row_of rdata_table (dnssec_type known)
 
 -- the values of the fields
 abbrev pub dnssec_values : DNSSECRData → List Value
-dnssec_values (dnssec.CDNSKEY key) = cdnskey_values (cdnskey_data key)
-dnssec_values (dnssec.CDS cds) = cds_values (cds_data cds)
-dnssec_values (dnssec.DNSKEY key) = dnskey_values (dnskey_data key)
-dnssec_values (dnssec.DS ds) = ds_values (ds_data ds)
-dnssec_values (dnssec.KEY key) = key_values (key_data key)
-dnssec_values (dnssec.NSEC nsec) = nsec_values (nsec_data nsec)
-dnssec_values (dnssec.NSEC3 nsec3) = nsec3_values (nsec3_data nsec3)
-dnssec_values (dnssec.NSEC3PARAM param) = hash_values (nsec3param_data param)
-dnssec_values (dnssec.RRSIG rrsig) = sig_values (rrsig_data rrsig)
-dnssec_values (dnssec.SIG sig) = sig_values (sig_data sig)
-dnssec_values (dnssec.Unknown _ null) = null_values null
+dnssec_values x = (dnssec_view x).values
+
+-- the text
+abbrev pub dnssec_text : DNSSECRData → List ℕ
+dnssec_text x = (dnssec_view x).text
 
 -- No code that has a name of its own is called unknown, and the type isn't.
 abbrev pub DnssecIsByNumber : DNSSECRData → Type 0
@@ -80,36 +96,40 @@ IsDnssecCopy x y = x ≡ y
 
 -- ---- the data of every type
 
+-- each type: its number, the values of its fields, its text
+abbrev pub rdata_view : RData → DataView
+rdata_view (rdata.A octets) = view types.A (Str octets ∷ []) (ipv4_text octets)
+rdata_view (rdata.AAAA octets) = view types.AAAA (Str octets ∷ []) (ipv6_text (segments_of octets))
+rdata_view (rdata.NS n) = view types.NS (name_values n) (name_text n)
+rdata_view (rdata.MD n) = view types.MD (name_values n) (name_text n)
+rdata_view (rdata.MF n) = view types.MF (name_values n) (name_text n)
+rdata_view (rdata.CNAME n) = view types.CNAME (name_values n) (name_text n)
+rdata_view (rdata.MB n) = view types.MB (name_values n) (name_text n)
+rdata_view (rdata.MG n) = view types.MG (name_values n) (name_text n)
+rdata_view (rdata.MR n) = view types.MR (name_values n) (name_text n)
+rdata_view (rdata.PTR n) = view types.PTR (name_values n) (name_text n)
+rdata_view (rdata.DNAME n) = view types.DNAME (name_values n) (name_text n)
+rdata_view (rdata.MX mx) = view types.MX (mx_values mx) (number_name_text mx.preference mx.exchange)
+rdata_view (rdata.AFSDB afsdb) = view types.AFSDB (afsdb_values afsdb) (number_name_text afsdb.subtype afsdb.hostname)
+rdata_view (rdata.RT rt) = view types.RT (rt_values rt) (number_name_text rt.preference rt.intermediate)
+rdata_view (rdata.KX kx) = view types.KX (kx_values kx) (number_name_text kx.preference kx.exchanger)
+rdata_view (rdata.PX px) = view types.PX (px_values px) (number_two_names_text px.preference px.map822 px.mapx400)
+rdata_view (rdata.MINFO minfo) = view types.MINFO (minfo_values minfo) (two_names_text minfo.rmailbx minfo.emailbx)
+rdata_view (rdata.RP rp) = view types.RP (rp_values rp) (two_names_text rp.mbox rp.txt)
+rdata_view (rdata.SOA soa) = view types.SOA (soa_values soa) (soa_text soa)
+rdata_view (rdata.SRV srv) = view types.SRV (srv_values srv) (srv_text srv)
+rdata_view (rdata.NAPTR naptr) = view types.NAPTR (naptr_values naptr) (naptr_text naptr)
+rdata_view (rdata.TXT txt) = view types.TXT (txt_values txt) (strings_text (txt_strings txt))
+rdata_view (rdata.NULL null) = view types.NULL (null_values null) (unknown_text (null_octets null))
+rdata_view (rdata.OPT null) = view types.OPT (null_values null) (unknown_text (null_octets null))
+rdata_view (rdata.DNSSEC data_of) = dnssec_view data_of
+rdata_view (rdata.TSIG tsig) = view types.TSIG (tsig_values (tsig_data tsig)) (tsig_text (tsig_fields tsig))
+rdata_view (rdata.Unknown rtype null) = view rtype (null_values null) (unknown_text (null_octets null))
+rdata_view (rdata.Update0 rtype) = view rtype [] (unknown_text [])
+
 -- the type of a record that has the data
 abbrev pub rdata_type : RData → ℕ
-rdata_type (rdata.A _) = types.A
-rdata_type (rdata.AAAA _) = types.AAAA
-rdata_type (rdata.NS _) = types.NS
-rdata_type (rdata.MD _) = types.MD
-rdata_type (rdata.MF _) = types.MF
-rdata_type (rdata.CNAME _) = types.CNAME
-rdata_type (rdata.MB _) = types.MB
-rdata_type (rdata.MG _) = types.MG
-rdata_type (rdata.MR _) = types.MR
-rdata_type (rdata.PTR _) = types.PTR
-rdata_type (rdata.DNAME _) = types.DNAME
-rdata_type (rdata.MX _) = types.MX
-rdata_type (rdata.AFSDB _) = types.AFSDB
-rdata_type (rdata.RT _) = types.RT
-rdata_type (rdata.KX _) = types.KX
-rdata_type (rdata.PX _) = types.PX
-rdata_type (rdata.MINFO _) = types.MINFO
-rdata_type (rdata.RP _) = types.RP
-rdata_type (rdata.SOA _) = types.SOA
-rdata_type (rdata.SRV _) = types.SRV
-rdata_type (rdata.NAPTR _) = types.NAPTR
-rdata_type (rdata.TXT _) = types.TXT
-rdata_type (rdata.NULL _) = types.NULL
-rdata_type (rdata.OPT _) = types.OPT
-rdata_type (rdata.DNSSEC data_of) = dnssec_type data_of
-rdata_type (rdata.TSIG _) = types.TSIG
-rdata_type (rdata.Unknown rtype _) = rtype
-rdata_type (rdata.Update0 rtype) = rtype
+rdata_type x = (rdata_view x).rtype
 
 -- The fields of the data. Those that are called unknown are octets, whatever their type.
 abbrev pub rdata_row : RData → List Field
@@ -119,34 +139,12 @@ rdata_row known = row_of rdata_table (rdata_type known)
 
 -- the values of the fields, and none of empty data
 abbrev pub rdata_values : RData → Option (List Value)
-rdata_values (rdata.A octets) = Some (Str octets ∷ [])
-rdata_values (rdata.AAAA octets) = Some (Str octets ∷ [])
-rdata_values (rdata.NS n) = Some (name_values n)
-rdata_values (rdata.MD n) = Some (name_values n)
-rdata_values (rdata.MF n) = Some (name_values n)
-rdata_values (rdata.CNAME n) = Some (name_values n)
-rdata_values (rdata.MB n) = Some (name_values n)
-rdata_values (rdata.MG n) = Some (name_values n)
-rdata_values (rdata.MR n) = Some (name_values n)
-rdata_values (rdata.PTR n) = Some (name_values n)
-rdata_values (rdata.DNAME n) = Some (name_values n)
-rdata_values (rdata.MX mx) = Some (mx_values mx)
-rdata_values (rdata.AFSDB afsdb) = Some (afsdb_values afsdb)
-rdata_values (rdata.RT rt) = Some (rt_values rt)
-rdata_values (rdata.KX kx) = Some (kx_values kx)
-rdata_values (rdata.PX px) = Some (px_values px)
-rdata_values (rdata.MINFO minfo) = Some (minfo_values minfo)
-rdata_values (rdata.RP rp) = Some (rp_values rp)
-rdata_values (rdata.SOA soa) = Some (soa_values soa)
-rdata_values (rdata.SRV srv) = Some (srv_values srv)
-rdata_values (rdata.NAPTR naptr) = Some (naptr_values naptr)
-rdata_values (rdata.TXT txt) = Some (txt_values txt)
-rdata_values (rdata.NULL null) = Some (null_values null)
-rdata_values (rdata.OPT null) = Some (null_values null)
-rdata_values (rdata.DNSSEC data_of) = Some (dnssec_values data_of)
-rdata_values (rdata.TSIG tsig) = Some (tsig_values (tsig_data tsig))
-rdata_values (rdata.Unknown _ null) = Some (null_values null)
 rdata_values (rdata.Update0 _) = None
+rdata_values x = Some (rdata_view x).values
+
+-- the text
+abbrev pub rdata_text : RData → List ℕ
+rdata_text x = (rdata_view x).text
 
 -- No type and no code that has a name of its own is called unknown, and no TSIG is empty.
 abbrev pub RDataIsByNumber : RData → Type 0

@@ -2,8 +2,7 @@
 ghost use Rattle.std.specs.Prelude.{◌≡◌, Some, IfOk};
 ghost use Rattle.dns_wire.specs.Writing.{Writes};
 ghost use Rattle.dns_grammar.specs.Fields.{fields_octets};
-ghost use Rattle.dns_rdata.specs.RData.{dnssec_row, dnssec_type, dnssec_values, IsDnssecCopy};
-ghost use Rattle.dns_rdata.specs.Texts.{dnssec_text};
+ghost use Rattle.dns_rdata.specs.RData.{dnssec_row, dnssec_type, dnssec_values, dnssec_text, IsDnssecCopy};
 
 use crate::null::NULL;
 use dns_text::Base64Text;

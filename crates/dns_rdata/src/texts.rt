@@ -2,7 +2,8 @@
 ghost use Rattle.std.specs.Prelude.{◌≡◌, Some};
 ghost use Rattle.std.specs.List.{flat_map};
 ghost use Rattle.dns_rdata.specs.Texts.{quoted_octet, quoted_text, strings_text, unknown_text, behind_length, soa_times_text};
-ghost use Rattle.dns_rdata.specs.Texts.{naptr_strings_text, soa_text, srv_text, naptr_text, rdata_text};
+ghost use Rattle.dns_rdata.specs.Texts.{naptr_strings_text, soa_text, srv_text, naptr_text};
+ghost use Rattle.dns_rdata.specs.RData.{rdata_text};
 
 use crate::naptr::NAPTR;
 use crate::rdata::RData;
