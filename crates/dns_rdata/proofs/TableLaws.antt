@@ -33,7 +33,8 @@ pub tsig_known : IsTable rdata_table
 tsig_known = record { tsig = refl }
 
 pub read_again : IsReadAgain rdata_table
-read_again m p len rtype data_of q octets read = read_data_again rdata_table m p len rtype data_of q (rest_last rtype) octets read
+read_again m p len rtype data_of q octets read =
+    read_data_again rdata_table m p len rtype data_of q (rest_last rtype) octets read
 
 dnssec_row_of_type : (x : DNSSECRData) → DnssecIsByNumber x → dnssec_row x ≡ row_of rdata_table (dnssec_type x)
 dnssec_row_of_type (dnssec.Unknown code null) h = absurd h

@@ -14,7 +14,8 @@ use Rattle.dns_grammar.specs.Messages.{tsig_values}
 use Rattle.dns_grammar.specs.RecordData.{tsig_type, one_type_data_at}
 use Rattle.sec_keydata.specs.DnsKeys.{dnskey_data, dnskey_values, dnskey_text, DnsKeyIsByNumber}
 use Rattle.sec_keydata.specs.DnsKeys.{cdnskey_data, cdnskey_values, cdnskey_text, CdnsKeyIsByNumber}
-use Rattle.sec_keydata.specs.DsData.{ds_data, ds_values, ds_text, DsIsByNumber, cds_data, cds_values, cds_text, CdsIsByNumber}
+use Rattle.sec_keydata.specs.DsData.{ds_data, ds_values, ds_text, DsIsByNumber}
+use Rattle.sec_keydata.specs.DsData.{cds_data, cds_values, cds_text, CdsIsByNumber}
 use Rattle.sec_keydata.specs.KeyData.{key_data, key_values, key_text, KeyIsByNumber}
 use Rattle.sec_sigdata.specs.HashParameters.{nsec3param_data, hash_values, hash_text}
 use Rattle.sec_sigdata.specs.Nsec.{nsec_data, nsec_values, nsec_text}

@@ -19,8 +19,8 @@ quote = 34
 abbrev pub is_plain : ℕ → Bool
 is_plain octet = is_ascii_graphic octet || nat_eq octet 32
 
--- An octet of a string: `"` and `\` behind a backslash, other visible ones and a space as themselves, and any other as a
--- backslash and three decimal digits.
+-- An octet of a string: `"` and `\` behind a backslash, other visible ones and a space as themselves, and any other as
+-- a backslash and three decimal digits.
 abbrev pub quoted_octet : ℕ → List ℕ
 quoted_octet octet =
     if nat_eq octet quote || nat_eq octet backslash then backslash ∷ octet ∷ []

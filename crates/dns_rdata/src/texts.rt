@@ -1,9 +1,9 @@
 //! Record data as text (RFC 1035 5.1, RFC 3597 5).
 ghost use Rattle.std.specs.Prelude.{◌≡◌, Some};
 ghost use Rattle.std.specs.List.{flat_map};
-ghost use Rattle.dns_rdata.specs.Texts.{quoted_octet, quoted_text, strings_text, unknown_text, behind_length, soa_times_text};
-ghost use Rattle.dns_rdata.specs.Texts.{naptr_strings_text, soa_text, srv_text, naptr_text};
 ghost use Rattle.dns_rdata.specs.RData.{rdata_text};
+ghost use Rattle.dns_rdata.specs.Texts.{quoted_octet, quoted_text, strings_text, unknown_text, behind_length};
+ghost use Rattle.dns_rdata.specs.Texts.{soa_times_text, soa_text, srv_text, naptr_strings_text, naptr_text};
 
 use crate::naptr::NAPTR;
 use crate::rdata::RData;
