@@ -50,6 +50,32 @@ fn reads_and_shows_each_type(rt: HostRuntime) -> Result<(), Fail> {
 }
 
 #[test]
+fn reads_and_shows_types_of_mail_and_routes(rt: HostRuntime) -> Result<(), Fail> {
+    // RFC 1035 3.2.2, RFC 1183, RFC 2163 and RFC 2230
+    let types = [
+        (3, "MD"),
+        (4, "MF"),
+        (7, "MB"),
+        (8, "MG"),
+        (9, "MR"),
+        (14, "MINFO"),
+        (17, "RP"),
+        (18, "AFSDB"),
+        (21, "RT"),
+        (26, "PX"),
+        (36, "KX"),
+    ];
+    for (number, shown) in types {
+        let rtype = RecordType::parse(shown).ok_or("not read")?;
+        assert_eq!(rt; u16::from(rtype), number);
+        assert_eq!(rt; rtype.to_string(rt.alloc())?.as_str(), shown);
+    }
+    assert_eq!(rt; RecordType::parse("minfo"), Some(RecordType::MINFO));
+    assert_eq!(rt; RecordType::parse("mInFo"), Some(RecordType::MINFO));
+    Ok(())
+}
+
+#[test]
 fn reads_and_shows_each_class(rt: HostRuntime) -> Result<(), Fail> {
     let classes = [
         (DNSClass::IN, 1, "IN", "In"),

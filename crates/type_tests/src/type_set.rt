@@ -25,7 +25,7 @@ fn has_these(set: &RecordTypeSet, numbers: &[u16]) -> bool {
 }
 
 #[test]
-fn writes_and_reads_five_types(rt: HostRuntime) -> Result<(), Fail> {
+fn writes_five_types(rt: HostRuntime) -> Result<(), Fail> {
     let types = [
         RecordType::NSEC,
         RecordType::from(1234),
@@ -38,14 +38,24 @@ fn writes_and_reads_five_types(rt: HostRuntime) -> Result<(), Fail> {
     let mut encoder = BinEncoder::new(rt.alloc());
     set.emit(&mut encoder)?;
     assert_eq!(rt; encoder.as_slice(), FIVE);
-    let read = set_of(rt.alloc(), FIVE)?;
-    assert!(rt; read == set);
-    assert!(rt; has_these(&read, &[1, 15, 46, 47, 1234]));
-    assert!(rt; read.contains(RecordType::MX));
-    assert!(rt; read.contains(RecordType::from(1234)));
-    assert!(rt; !read.contains(RecordType::NS));
-    assert!(rt; !read.contains(RecordType::from(1235)));
-    assert!(rt; !read.contains(RecordType::from(1024)));
+    assert!(rt; set_of(rt.alloc(), FIVE)? == set);
+    Ok(())
+}
+
+#[test]
+fn reads_five_types(rt: HostRuntime) -> Result<(), Fail> {
+    let set = set_of(rt.alloc(), FIVE)?;
+    assert!(rt; has_these(&set, &[1, 15, 46, 47, 1234]));
+    let types = [
+        (RecordType::MX, true),
+        (RecordType::from(1234), true),
+        (RecordType::NS, false),
+        (RecordType::from(1235), false),
+        (RecordType::from(1024), false),
+    ];
+    for (rtype, is_member) in types {
+        assert_eq!(rt; set.contains(rtype), is_member);
+    }
     Ok(())
 }
 
