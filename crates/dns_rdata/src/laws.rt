@@ -1,12 +1,13 @@
 //! Laws of the definitions, each proved for every string of octets. Nothing calls these functions.
-ghost use Rattle.std.specs.Prelude.{◌≡◌, ℕ, IsTrue, map};
+ghost use Rattle.std.specs.Prelude.{◌≡◌, ℕ, IsTrue, true, false, map};
 ghost use Rattle.std.specs.List.Sorted.{IsStrictlyIncreasing};
 ghost use Rattle.dns_grammar.specs.Fields.{Table, row_of};
 ghost use Rattle.dns_grammar.specs.Laws.{rest_is_last};
+ghost use Rattle.dns_grammar.specs.RecordData.{rdata_octets, plain, fitting, canon};
 ghost use Rattle.dns_grammar.specs.Tables.{IsTable};
 ghost use Rattle.dns_rdata.specs.declared.rdata.RData.{RData};
 ghost use Rattle.dns_rdata.specs.OneReading.{rests_are_last, OneReading, IsReadAgain};
-ghost use Rattle.dns_rdata.specs.RData.{rdata_row, rdata_type, RDataIsByNumber};
+ghost use Rattle.dns_rdata.specs.RData.{rdata_row, rdata_type, rdata_values, RDataIsByNumber};
 ghost use Rattle.dns_rdata.specs.RDataTable.{rdata_table};
 
 /// Data of one type have equal canonical octets exactly where they agree.
@@ -28,7 +29,14 @@ pub fn table_is_table()
     ensures rest { (rtype : ℕ) → IsTrue (rest_is_last (row_of rdata_table rtype)) }
 {}
 
-/// The fields of data that are called unknown by their number alone are those that the table has for their type.
+/// The fields of data are those that the table has for their type, where no type that it knows is called unknown, as in
+/// all data that were read. So what is written of them is their plain form, and in canonical form their canonical one.
 pub fn rows_are_of_types()
-    ensures { (rdata : RData) → RDataIsByNumber rdata → rdata_row rdata ≡ row_of rdata_table (rdata_type rdata) }
+    ensures rows { (rdata : RData) → RDataIsByNumber rdata → rdata_row rdata ≡ row_of rdata_table (rdata_type rdata) }
+    ensures plain { (rdata : RData) → RDataIsByNumber rdata
+        → rdata_octets false (rdata_row rdata) (rdata_values rdata)
+        ≡ plain rdata_table (rdata_type rdata) (rdata_values rdata) }
+    ensures canon { (rdata : RData) → RDataIsByNumber rdata
+        → fitting (rdata_octets true (rdata_row rdata) (rdata_values rdata))
+        ≡ canon rdata_table (rdata_type rdata) (rdata_values rdata) }
 {}
