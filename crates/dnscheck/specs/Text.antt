@@ -6,7 +6,7 @@ use Rattle.dns_names.specs.NameText.{name_text}
 use Rattle.dns_types.specs.Codes.{type_text, class_text}
 use Rattle.sec_tsig.specs.declared.first_set.FirstSet.{FirstSet}
 use Rattle.sec_tsig.specs.declared.verifier.FirstError.{FirstError}
-use Rattle.sec_tsig.specs.declared.verifier.FirstError.TheVariants.{Decode, NotBuilt, Invalid, OutOfMemory}
+use Rattle.sec_tsig.specs.declared.verifier.FirstError.TheVariants.{Decode, Invalid, OutOfMemory}
 
 -- the signed request, in lower case
 abbrev pub request_text : List ℕ → List ℕ
@@ -19,7 +19,6 @@ accepted_text number sets = codes "answer " ++ decimal number ++ codes " ok " ++
 -- why an answer is refused (want of memory is no cause, and is never printed)
 abbrev pub cause_word : FirstError → List ℕ
 cause_word Decode = codes "Decode"
-cause_word NotBuilt = codes "NotBuilt"
 cause_word Invalid = codes "Invalid"
 cause_word OutOfMemory = codes "OutOfMemory"
 

@@ -84,7 +84,6 @@ fn cause_word(cause: FirstError) -> &'static str
 {
     match cause {
         FirstError::Decode => "Decode",
-        FirstError::NotBuilt => "NotBuilt",
         FirstError::Invalid => "Invalid",
         FirstError::OutOfMemory => "OutOfMemory",
     }

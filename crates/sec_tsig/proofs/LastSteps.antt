@@ -8,7 +8,8 @@ use Rattle.dns_wire.specs.declared.error.DecodeError.TheVariants.{InsufficientBy
 use Rattle.dns_wire.specs.Reading.{◌>>=◌}
 use Rattle.dns_grammar.specs.Fields.{Field, Value}
 use Rattle.dns_grammar.specs.RecordData.{tsig_type, fields_filling, one_type_data_at, rdata_at}
-use Rattle.dns_grammar.specs.Tables.{short_table, tsig_row}
+use Rattle.dns_grammar.specs.Tables.{tsig_row}
+use Rattle.dns_rdata.specs.RDataTable.{rdata_table}
 use Rattle.dns_grammar.specs.Messages.{RecordHead, ResourceRecord, TsigData, Signature, tsig_values, tsig_from_values}
 use Rattle.dns_grammar.specs.Messages.{with_data, signature_with, head_at, record_at}
 use Rattle.sec_tsig.specs.Views.{as_signature}
@@ -63,7 +64,7 @@ never_empty h r false (Err e) = refl
 
 -- a record of type TSIG, as the last additional
 tsig_last : (m : List ℕ) (p : ℕ) (h : RecordHead) (r : ℕ) → head_at m p ≡ Ok (h, r) → h.rtype ≡ tsig_type
-    → as_signature (record_at short_table true m p)
+    → as_signature (record_at rdata_table true m p)
     ≡ ((data_end_at m r h.data_length >>= filled tsig_row m r) >>= with_values h)
 unfolding record_at rdata_at
 tsig_last m p h r head is =
@@ -73,7 +74,7 @@ tsig_last m p h r head is =
 -- too few octets for its data, or none
 pub last_short : (m : List ℕ) (p : ℕ) (h : RecordHead) (r : ℕ) (fault : DecodeError) → head_at m p ≡ Ok (h, r)
     → h.rtype ≡ tsig_type
-    → data_end_at m r h.data_length ≡ Err fault → as_signature (record_at short_table true m p) ≡ Err fault
+    → data_end_at m r h.data_length ≡ Err fault → as_signature (record_at rdata_table true m p) ≡ Err fault
 last_short m p h r fault head is end = tsig_last m p h r head is
     ∙ ap (λ read. (read >>= filled tsig_row m r) >>= with_values h) end
 
@@ -81,7 +82,7 @@ last_short m p h r fault head is end = tsig_last m p h r head is
 pub last_fails : (m : List ℕ) (p : ℕ) (h : RecordHead) (r e : ℕ) (fault : DecodeError) → head_at m p ≡ Ok (h, r)
     → h.rtype ≡ tsig_type
     → data_end_at m r h.data_length ≡ Ok e → fields_filling tsig_row m r e ≡ Err fault
-    → as_signature (record_at short_table true m p) ≡ Err fault
+    → as_signature (record_at rdata_table true m p) ≡ Err fault
 last_fails m p h r e fault head is end fails =
     tsig_last m p h r head is ∙ ap (λ read. (read >>= filled tsig_row m r) >>= with_values h) end
     ∙ ap (λ read. (read >>= λ values. with_end values e) >>= with_values h) fails
@@ -93,7 +94,7 @@ last_fails m p h r e fault head is end fails =
 pub last_signed : (m : List ℕ) (p : ℕ) (h : RecordHead) (r e : ℕ) (tsig : TsigData) → head_at m p ≡ Ok (h, r)
     → h.rtype ≡ tsig_type
     → data_end_at m r h.data_length ≡ Ok e → fields_filling tsig_row m r e ≡ Ok (tsig_values tsig)
-    → as_signature (record_at short_table true m p)
+    → as_signature (record_at rdata_table true m p)
     ≡ Ok (Some (record { start = h.start; name = h.name; tsig = tsig }), e)
 last_signed m p h r e tsig head is end row =
     tsig_last m p h r head is ∙ ap (λ read. (read >>= filled tsig_row m r) >>= with_values h) end

@@ -1,15 +1,13 @@
 -- What the walks over a message's records give: the types of its records, and its sets.
-use Rattle.std.proofs.Common.{◌≡◌, ℕ, zero, suc, ◌+◌, ◌≤◌, Bool, true, false, ◌&&◌, cond, eqb, leb, ltb, List, [], ◌∷◌}
+use Rattle.std.proofs.Common.{◌≡◌, ℕ, zero, suc, ◌+◌, ◌≤◌, Bool, true, false, cond, eqb, leb, ltb, List, [], ◌∷◌}
 use Rattle.std.proofs.Common.{◌++◌, length, map, Option, Some, None, Result, Ok, Err}
 use Rattle.std.proofs.Common.{refl, sym, ap, subst, ◌∙◌, append_assoc, append-nil, arith}
-use Rattle.std.specs.List.{filter, fold, list_all}
-use Rattle.std.specs.Prelude.{IfOk, IsOk}
+use Rattle.std.specs.List.{filter, fold}
+use Rattle.std.specs.Prelude.{IsOk}
 use Rattle.std.proofs.lemmas.Bool.{le-leb}
-use Rattle.std.proofs.lemmas.List.{map-append}
 use Rattle.dns_wire.specs.declared.error.DecodeError.{DecodeError}
 use Rattle.dns_wire.specs.declared.error.DecodeError.TheVariants.{MessageTooLong}
-use Rattle.dns_wire.specs.Reading.{◌>>=◌, each_at, octets_at}
-use Rattle.dns_types.specs.TypeSets.{is_one_of}
+use Rattle.dns_wire.specs.Reading.{each_at, octets_at}
 use Rattle.dns_grammar.specs.Fields.{Table, Value}
 use Rattle.dns_grammar.specs.RecordData.{RDataAt, rdata_at}
 use Rattle.dns_grammar.specs.Messages.{Header, Message, RecordHead, ResourceRecord, records, with_data, placed, head_at}
@@ -21,10 +19,9 @@ use Rattle.dns_grammar.proofs.Steps.{chosen}
 use Rattle.dns_grammar.proofs.DataLaws.{rdata_stands}
 use Rattle.dns_grammar.proofs.HeadLaws.{head_stands}
 use Rattle.sec_tsig.specs.declared.first_set.FirstSet.{FirstSet}
-use Rattle.sec_tsig.specs.FirstMessages.{has_only}
 use Rattle.sec_tsig.specs.RecordSets.{firsts, forms_rrset, listed, message_sets, same_set, set_of, sets_given, with_new}
 use Rattle.sec_tsig.specs.RecordSets.{with_set}
-use Rattle.sec_tsig.specs.RecordWalks.{walk_at, seen, type_at, types_pass_at, set_of_head, sets_at}
+use Rattle.sec_tsig.specs.RecordWalks.{walk_at, seen, set_of_head, sets_at}
 use Rattle.sec_tsig.proofs.Firsts.{firsts-push}
 use Rattle.sec_tsig.proofs.KeySteps.{same_set_equiv}
 
@@ -113,39 +110,6 @@ module _ {X : Type 0} (of : ResourceRecord → X) (view : RecordHead
       (ap (λ (y : List ResourceRecord × ℕ). Ok (map of y.0, y.1))
       (is_ok_same (first.0.0 ∷ rest.0.0, rest.0.1) (rrs, q) rest.2))
 
--- ---- the types of a message's records
-
--- values read in two parts
-each-append : {A : Type 0} (read : ℕ → Result (A × ℕ) DecodeError) (a b p : ℕ) (xs : List A) (q : ℕ) (ys : List A)
-    (r : ℕ)
-    → each_at read a p ≡ Ok (xs, q) → each_at read b q ≡ Ok (ys, r) → each_at read (a + b) p ≡ Ok (xs ++ ys, r)
-unfolding each_at
-each-append {A} read zero b p xs q ys r first second =
-    let same = is_ok_same ([], p) (xs, q) first in
-    let none : b ≡ 0 + b = omega arith in
-    let here : q ≡ p = ap (λ (y : List A × ℕ). y.1) (sym same) in
-    ap (λ (k : ℕ). each_at read k p) (sym none) ∙ ap (λ (k : ℕ). each_at read b k) (sym here) ∙ second
-    ∙ ap (λ (l : List A). let ok : Result (List A × ℕ) DecodeError = Ok (l ++ ys, r) in ok)
-    (ap (λ (y : List A × ℕ). y.0) same)
-each-append {A} read (suc a) b p xs q ys r first second =
-    let one = bind_ok (read p) _ (xs, q) first in
-    let rest = bind_ok (each_at read a one.0.1) _ (xs, q) one.2 in
-    let same = is_ok_same (one.0.0 ∷ rest.0.0, rest.0.1) (xs, q) rest.2 in
-    let behind : each_at read b rest.0.1 ≡ Ok (ys, r) = ap (λ (y : List A × ℕ). each_at read b y.1) same ∙ second in
-    let more : suc a + b ≡ suc (a + b) = omega arith in
-    ap (λ (k : ℕ). each_at read k p) more
-    ∙ ap (λ (first : Result (A × ℕ) DecodeError). first >>= λ x. before x.0 (each_at read (a + b) x.1)) one.1
-    ∙ ap (before one.0.0) (each-append read a b one.0.1 rest.0.0 rest.0.1 ys r rest.1 behind)
-    ∙ ap (λ (y : List A × ℕ). let ok : Result (List A × ℕ) DecodeError = Ok (y.0 ++ ys, r) in ok) same
-  where
-    before : A → Result (List A × ℕ) DecodeError → Result (List A × ℕ) DecodeError
-    before x rest = rest >>= λ xs. Ok (x ∷ xs.0, xs.1)
-
-list_all-map : {A : Type 0} (test : ℕ → Bool) (f : A → ℕ) (xs : List A)
-    → list_all test (map f xs) ≡ list_all (λ x. test (f x)) xs
-list_all-map test f [] = refl
-list_all-map test f (x ∷ xs) = ap (λ (b : Bool). test (f x) && b) (list_all-map test f xs)
-
 -- the parts of a message that is read
 record IsRead (table : Table) (m : List ℕ) (message : Message) : Type 0 where
   pub header_end : ℕ
@@ -191,56 +155,6 @@ is_read table m x h =
       additionals = additionals.1;
     } in
     subst (λ (y : Message × ℕ). IsRead table m y.0) (is_ok_same (message, additionals.0.1) x additionals.2) is
-
-types_are : (table : Table) (m : List ℕ) (allowed : List ℕ) (message : Message) → IsRead table m message
-    → types_pass_at (is_one_of allowed) m ≡ Ok (has_only allowed message)
-unfolding types_pass_at
-types_are table m allowed message is =
-    let h : Header = message.header in
-    let of : ResourceRecord → ℕ = λ rr. rr.rtype in
-    let view : RecordHead → ℕ = λ head. head.rtype in
-    let a = records_seen of view (λ head rdata. refl) m table h.answers is.queries_end message.answers is.answers_end
-    is.answers in
-    let n = records_seen of view (λ head rdata. refl) m table h.authorities is.answers_end message.authorities
-    is.authorities_end is.authorities in
-    let d = additionals_seen of view (λ head rdata. refl) m table h.additionals is.authorities_end message.additionals
-    is.end is.additionals in
-    let an = each-append (type_at m) h.answers h.authorities is.queries_end _ is.answers_end _ is.authorities_end a n in
-    let all = each-append (type_at m) (h.answers + h.authorities) h.additionals is.queries_end _ is.authorities_end _
-    is.end an d in
-    let test : ℕ → Bool = is_one_of allowed in
-    let types : (map of message.answers ++ map of message.authorities) ++ map of message.additionals
-    ≡ map of (records message) =
-    append_assoc (map of message.answers) (map of message.authorities) (map of message.additionals)
-    ∙ ap (λ l. map of message.answers ++ l) (sym (map-append of message.authorities message.additionals))
-    ∙ sym (map-append of message.answers (message.authorities ++ message.additionals)) in
-    rw (is.header, is.queries, all) (ap (λ l. let ok : Result Bool DecodeError = Ok (list_all test l) in ok) types
-    ∙ ap (λ (b : Bool). let ok : Result Bool DecodeError = Ok b in ok) (list_all-map test of (records message)))
-
--- what the walk over types gives, where it goes over a message
-pub only_types : (table : Table) (m : List ℕ) (allowed : List ℕ) (pass : Bool)
-    → types_pass_at (is_one_of allowed) m ≡ Ok pass
-    → IfOk (message_at table m) (λ x. pass ≡ has_only allowed x.0)
-only_types table m allowed pass walked = go (message_at table m) refl
-  where
-    ok_same : (a b : Bool) → ◌≡◌ {A = Result Bool DecodeError} (Ok a) (Ok b) → a ≡ b
-    ok_same a b e = cc
-
-    go : (read : Result (Message × ℕ) DecodeError) → message_at table m ≡ read
-        → IfOk read (λ x. pass ≡ has_only allowed x.0)
-    go (Ok x) h = ok_same pass _ (sym walked ∙ types_are table m allowed x.0 (is_read table m x h))
-    go (Err e) h = tt
-
--- a walk that fails goes over no message
-pub no_types : (table : Table) (m : List ℕ) (allowed : List ℕ) (pass : Bool) (fault : DecodeError)
-    → types_pass_at (is_one_of allowed) m ≡ Err fault
-    → IfOk (message_at table m) (λ x. pass ≡ has_only allowed x.0)
-no_types table m allowed pass fault walked = go (message_at table m) refl
-  where
-    go : (read : Result (Message × ℕ) DecodeError) → message_at table m ≡ read
-        → IfOk read (λ x. pass ≡ has_only allowed x.0)
-    go (Ok x) h = let are = types_are table m allowed x.0 (is_read table m x h) in absurd (cc (sym walked ∙ are))
-    go (Err e) h = tt
 
 -- ---- sets put to a list
 

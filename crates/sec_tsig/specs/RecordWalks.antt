@@ -1,6 +1,6 @@
 -- The records of a message gone over once more, whatever their data.
-use Rattle.std.specs.Prelude.{ℕ, ◌+◌, Bool, List, [], length, Result, Ok}
-use Rattle.std.specs.List.{fold, list_all}
+use Rattle.std.specs.Prelude.{ℕ, List, [], length, Result, Ok}
+use Rattle.std.specs.List.{fold}
 use Rattle.dns_wire.specs.declared.error.DecodeError.{DecodeError}
 use Rattle.dns_wire.specs.Reading.{◌>>=◌, each_at, octets_at}
 use Rattle.dns_names.specs.Skipping.{without_value}
@@ -18,23 +18,6 @@ walk_at m p = do
 -- a head that is read, seen by a view
 abbrev pub seen : {X : Type 0} → (RecordHead → X) → Result (RecordHead × ℕ) DecodeError → Result (X × ℕ) DecodeError
 seen view read = read >>= λ head. Ok (view head.0, head.1)
-
--- ---- types
-
--- the type of the record at p
-abbrev pub type_at : List ℕ → ℕ → Result (ℕ × ℕ) DecodeError
-type_at m p = seen (λ head. head.rtype) (walk_at m p)
-
--- whether each number that is read passes a test
-abbrev pub all_pass : (ℕ → Bool) → Result (List ℕ × ℕ) DecodeError → Result Bool DecodeError
-all_pass test read = read >>= λ xs. Ok (list_all test xs.0)
-
--- whether the type of each record behind the questions passes a test
-unfoldable pub types_pass_at : (ℕ → Bool) → List ℕ → Result Bool DecodeError
-types_pass_at test m = do
-  header ← header_at m
-  queries ← without_value (queries_at header.0.questions m header.1)
-  all_pass test (each_at (type_at m) (header.0.answers + header.0.authorities + header.0.additionals) queries.1)
 
 -- ---- sets
 

@@ -8,7 +8,7 @@ use Rattle.dns_wire.specs.Octets.{two_octets}
 use Rattle.dns_wire.specs.Reading.{◌>>=◌}
 use Rattle.dns_wire.specs.Writing.{Output}
 use Rattle.dns_grammar.specs.RecordData.{tsig_type}
-use Rattle.dns_grammar.specs.Tables.{short_table}
+use Rattle.dns_rdata.specs.RDataTable.{rdata_table}
 use Rattle.dns_grammar.specs.Messages.{ResourceRecord, TsigData, tsig_values}
 use Rattle.dns_grammar.specs.MessageWriting.{record_octets}
 use Rattle.sec_sigdata.specs.TsigRecords.{any_class, tsig_timers, tsig_variables}
@@ -55,7 +55,7 @@ tsig_rr owner tsig = record {
 
 -- the octets of a TSIG record, or the first cause why there are none
 abbrev pub tsig_record : List (List ℕ) → TsigData → Result (List ℕ) EmitError
-tsig_record owner tsig = record_octets false Uncompressed short_table (tsig_rr owner tsig)
+tsig_record owner tsig = record_octets false Uncompressed rdata_table (tsig_rr owner tsig)
 
 -- the octets of a message with a record put behind them and counted among its additionals, of which there were so many
 abbrev pub join : List ℕ → ℕ → List ℕ → List ℕ

@@ -3,7 +3,7 @@ use Rattle.std.specs.Prelude.{ℕ, ◌-◌, ◌≤◌, List, length, Option, Res
 use Rattle.dns_wire.specs.declared.error.DecodeError.{DecodeError}
 use Rattle.dns_wire.specs.Reading.{◌>>=◌}
 use Rattle.dns_names.specs.Skipping.{without_value}
-use Rattle.dns_grammar.specs.Tables.{short_table}
+use Rattle.dns_rdata.specs.RDataTable.{rdata_table}
 use Rattle.dns_grammar.specs.Messages as grammar
 use Rattle.dns_grammar.specs.Messages.{Message, ResourceRecord, Signature, outline_of, signature_from}
 use Rattle.dns_grammar.specs.Messages.{queries_at, records_at, sized_header_at}
@@ -61,7 +61,7 @@ unfoldable pub ahead_at : List ℕ → Result (grammar.Header × ℕ) DecodeErro
 ahead_at m = do
   header ← sized_header_at m
   queries ← without_value (queries_at header.0.questions m header.1)
-  answers ← without_value (records_at short_table header.0.answers m queries.1)
-  authorities ← without_value (records_at short_table header.0.authorities m answers.1)
-  others ← without_value (records_at short_table (header.0.additionals - 1) m authorities.1)
+  answers ← without_value (records_at rdata_table header.0.answers m queries.1)
+  authorities ← without_value (records_at rdata_table header.0.authorities m answers.1)
+  others ← without_value (records_at rdata_table (header.0.additionals - 1) m authorities.1)
   Ok (header.0, others.1)

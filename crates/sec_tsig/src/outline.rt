@@ -4,7 +4,7 @@ ghost use Rattle.std.specs.Option.{option_map, ForSome};
 ghost use Rattle.dns_wire.specs.Reading.{octets, place, Gives, Reads};
 ghost use Rattle.dns_names.specs.Jumps.{AreJumps};
 ghost use Rattle.dns_names.specs.Skipping.{without_value};
-ghost use Rattle.dns_grammar.specs.Tables.{short_table};
+ghost use Rattle.dns_rdata.specs.RDataTable.{rdata_table};
 ghost use Rattle.dns_grammar.specs.Messages.{message_at, queries_at, record_at, records_at};
 ghost use Rattle.sec_sigdata.specs.TsigRecords.{borrowed_fields, TsigFits, TsigIsByNumber};
 ghost use Rattle.sec_tsig.specs.Views.{ahead_at, as_signature, header_view, outlined, outline_view, signature_view};
@@ -56,7 +56,7 @@ fn skip_record(decoder: &mut BinDecoder<'_>, jumps: &mut [u16]) -> Result<(), De
     requires jumps { AreJumps (octets decoder.old) jumps.old }
     ensures jumps { AreJumps (octets decoder.old) jumps.new }
     ensures exact { Reads (λ x. x) result decoder.old decoder.new
-        (without_value (record_at short_table false (octets decoder.old) (place decoder.old))) }
+        (without_value (record_at rdata_table false (octets decoder.old) (place decoder.old))) }
 {
     let mut reader = *decoder;
     let (rtype, length) = skip_head(&mut reader, jumps)?;
@@ -78,7 +78,7 @@ fn skip_records<'a>(
     requires jumps { AreJumps (octets reader) jumps.old }
     ensures jumps { AreJumps (octets reader.entry) jumps.new }
     ensures exact { Gives (λ read. (tt, place read)) result
-        (without_value (records_at short_table count (octets reader.entry) (place reader.entry))) }
+        (without_value (records_at rdata_table count (octets reader.entry) (place reader.entry))) }
     ensures octets { IfOk result (λ read. octets read ≡ octets reader.entry) }
     ensures forward { IfOk result (λ read. place reader.entry ≤ place read) }
 {
@@ -120,7 +120,7 @@ fn message_ahead(message: &[u8]) -> Result<(Header, usize), DecodeError>
 #[tactic(auto, unfolding(dns_grammar::specs::Messages::record_at, dns_grammar::specs::RecordData::rdata_at))]
 fn read_last<'a>(decoder: &mut BinDecoder<'a>) -> Result<Option<SignatureView<'a>>, DecodeError>
     ensures exact { Reads (option_map signature_view) result decoder.old decoder.new
-        (as_signature (record_at short_table true (octets decoder.old) (place decoder.old))) }
+        (as_signature (record_at rdata_table true (octets decoder.old) (place decoder.old))) }
     ensures start { IfOk result (λ x. ForSome x (λ s. (s.start ≡ place decoder.old)
         × TsigFits (borrowed_fields s.tsig) × TsigIsByNumber (borrowed_fields s.tsig))) }
 {
@@ -151,7 +151,7 @@ impl<'a> Outline<'a> {
     /// The outline of the message in these octets.
     #[tactic(auto, using(crate::proofs::OutlineSteps::exits))]
     pub(crate) fn read(message: &'a [u8]) -> Result<Outline<'a>, DecodeError>
-        ensures exact { Gives outline_view result (outlined (message_at short_table message.now)) }
+        ensures exact { Gives outline_view result (outlined (message_at rdata_table message.now)) }
         ensures header { OnOk result (12 ≤ length message.now) }
         ensures placed { IfOk result (λ outline. ForSome outline.signature (IsPlaced 12 message.now outline.header)) }
     {

@@ -3,9 +3,9 @@ ghost use Rattle.dns_wire.specs.Reading.{octets, place, Reads};
 ghost use Rattle.dns_names.specs.Jumps.{AreJumps};
 ghost use Rattle.dns_names.specs.Skipping.{without_value};
 ghost use Rattle.dns_grammar.specs.RecordData.{rdata_at};
-ghost use Rattle.dns_grammar.specs.Tables.{short_table};
+ghost use Rattle.dns_rdata.specs.RDataTable.{rdata_table};
 
-use dns_grammar::{check_rdata, short_row};
+use dns_rdata::RData;
 use dns_types::RecordType;
 use dns_wire::{BinDecoder, DecodeError};
 
@@ -19,7 +19,7 @@ pub(crate) fn skip_rdata(
     requires jumps { AreJumps (octets decoder.old) jumps.old }
     ensures jumps { AreJumps (octets decoder.old) jumps.new }
     ensures exact { Reads (λ x. x) result decoder.old decoder.new
-        (without_value (rdata_at short_table (octets decoder.old) (place decoder.old) length rtype)) }
+        (without_value (rdata_at rdata_table (octets decoder.old) (place decoder.old) length rtype)) }
 {
-    check_rdata(decoder, rtype, length, short_row(rtype), jumps)
+    RData::check_with(decoder, rtype, length, jumps)
 }

@@ -3,7 +3,7 @@ ghost use Rattle.std.specs.Prelude.{◌≡◌, IfOk};
 ghost use Rattle.dns_wire.specs.Reading.{octets, place, Reads};
 ghost use Rattle.dns_names.specs.Jumps.{AreJumps};
 ghost use Rattle.dns_grammar.specs.Messages.{head_at};
-ghost use Rattle.sec_tsig.specs.RecordWalks.{walk_at, seen, type_at};
+ghost use Rattle.sec_tsig.specs.RecordWalks.{walk_at, seen};
 ghost use Rattle.sec_tsig.specs.Views.{head_view};
 
 use dns_names::Name;
@@ -42,24 +42,6 @@ pub(crate) fn skip_head(
     let length = reader.read_u16_within(end)?;
     *decoder = reader;
     Ok((RecordType::from(rtype), length))
-}
-
-/// Skips a record, whatever its data, and gives its type.
-#[tactic(auto, unfolding(crate::specs::RecordWalks::walk_at))]
-pub(crate) fn walk_type(
-    decoder: &mut BinDecoder<'_>,
-    jumps: &mut [u16],
-) -> Result<RecordType, DecodeError>
-    requires jumps { AreJumps (octets decoder.old) jumps.old }
-    ensures jumps { AreJumps (octets decoder.old) jumps.new }
-    ensures exact { Reads (λ rtype. rtype) result decoder.old decoder.new
-        (type_at (octets decoder.old) (place decoder.old)) }
-{
-    let mut reader = *decoder;
-    let (rtype, length) = skip_head(&mut reader, jumps)?;
-    reader.read_slice(usize::from(length))?;
-    *decoder = reader;
-    Ok(rtype)
 }
 
 impl RecordHead {

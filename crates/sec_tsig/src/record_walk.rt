@@ -1,81 +1,23 @@
-//! The records of a message gone over once more: their types, and the sets that they are of.
-ghost use Rattle.std.specs.Prelude.{◌≡◌, ◌≤◌, ◌+◌, IfOk, IsOk};
+//! The records of a message gone over once more, and the sets that they are of.
+ghost use Rattle.std.specs.Prelude.{◌≡◌, IfOk, IsOk};
 ghost use Rattle.dns_wire.specs.declared.error.DecodeError.TheVariants.{OutOfMemory as no_memory};
-ghost use Rattle.dns_wire.specs.Reading.{octets, place, each_at, Gives, GivesUnless, Reads};
+ghost use Rattle.dns_wire.specs.Reading.{octets, place, each_at, GivesUnless, Reads};
 ghost use Rattle.dns_names.specs.Jumps.{AreJumps};
-ghost use Rattle.dns_types.specs.TypeSets.{is_one_of};
-ghost use Rattle.dns_grammar.specs.Tables.{short_table};
+ghost use Rattle.dns_rdata.specs.RDataTable.{rdata_table};
 ghost use Rattle.dns_grammar.specs.Messages.{message_at};
-ghost use Rattle.sec_tsig.specs.FirstMessages.{has_only};
 ghost use Rattle.sec_tsig.specs.RecordSets.{sets_given};
-ghost use Rattle.sec_tsig.specs.RecordWalks.{added_sets, all_pass, set_at, sets_at, type_at, types_pass_at};
+ghost use Rattle.sec_tsig.specs.RecordWalks.{added_sets, set_at, sets_at};
 
 use crate::first_set::FirstSet;
 use crate::header::Header;
 use crate::outline::skip_queries;
-use crate::record_head::{RecordHead, walk_type};
+use crate::record_head::RecordHead;
 use crate::set_list::SetList;
 use dns_names::with_jumps;
-use dns_types::RecordType;
 use dns_wire::{BinDecoder, DecodeError};
 use std::alloc::Global;
 
-/// Whether each of so many records is of one of these types.
-#[tactic(auto, using(crate::proofs::Each::passing))]
-fn types_pass(
-    mut reader: BinDecoder<'_>,
-    count: u32,
-    types: &[RecordType],
-    jumps: &mut [u16],
-) -> Result<bool, DecodeError>
-    requires jumps { AreJumps (octets reader) jumps.old }
-    ensures { Gives (λ pass. pass) result
-        (all_pass (is_one_of types.now) (each_at (type_at (octets reader.entry)) count (place reader.entry))) }
-{
-    let mut pass = true;
-    'records: for _ in 0..count {
-        let rtype = walk_type(&mut reader, jumps)?;
-        pass &= types.contains(&rtype);
-    }
-    Ok(pass)
-}
-
-/// Whether each record behind the header is of one of these types.
-#[tactic(auto, unfolding(crate::specs::RecordWalks::types_pass_at))]
-fn read_types_pass(
-    message: &[u8],
-    types: &[RecordType],
-    jumps: &mut [u16],
-) -> Result<bool, DecodeError>
-    requires { AreJumps message.now jumps.old }
-    ensures { Gives (λ pass. pass) result (types_pass_at (is_one_of types.now) message.now) }
-{
-    let (header, reader) = Header::read(message)?;
-    let reader = skip_queries(reader, header.questions, jumps)?;
-    let count = u32::from(header.answers)
-        + u32::from(header.authorities)
-        + u32::from(header.additionals);
-    types_pass(reader, count, types, jumps)
-}
-
-/// The same with a table of jumps for the message.
-fn message_types_pass(message: &[u8], types: &[RecordType]) -> Result<bool, DecodeError>
-    ensures { Gives (λ pass. pass) result (types_pass_at (is_one_of types.now) message.now) }
-{
-    with_jumps(message, |jumps| read_types_pass(message, types, jumps))
-}
-
-/// Whether each record of the message in these octets is of one of these types.
-pub(crate) fn has_only(message: &[u8], types: &[RecordType]) -> bool
-    ensures { IfOk (message_at short_table message.now) (λ x. result ≡ has_only types.now x.0) }
-{
-    match message_types_pass(message, types) {
-        Ok(pass) => pass,
-        Err(_) => false,
-    }
-}
-
-/// Passes a record, and gives the set that it is of.
+/// Skips a record, and gives the set that it is of.
 fn read_set(
     decoder: &mut BinDecoder<'_>,
     section: u8,
@@ -141,8 +83,8 @@ fn message_sets(alloc: Global, message: &[u8]) -> Result<Vec<FirstSet>, DecodeEr
 
 /// The record sets of the message in these octets, section by section, in order of first record.
 pub(crate) fn record_sets(alloc: Global, message: &[u8]) -> Result<Vec<FirstSet>, DecodeError>
-    requires { IsOk (message_at short_table message.now) }
-    ensures { GivesUnless no_memory (λ v. v.items) result (sets_given (message_at short_table message.now)) }
+    requires { IsOk (message_at rdata_table message.now) }
+    ensures { GivesUnless no_memory (λ v. v.items) result (sets_given (message_at rdata_table message.now)) }
 {
     message_sets(alloc, message)
 }

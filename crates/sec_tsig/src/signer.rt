@@ -17,12 +17,10 @@ ghost use Rattle.sec_tsig.specs.FirstMessages.{sign_error, signed_request};
 use crate::header::Header;
 use crate::mac_input::feed_request;
 use crate::outline::Outline;
-use crate::record_walk::has_only;
 use crate::signature_view::SignatureView;
 use crate::tsig_record::with_tsig;
 use crate::verifier::FirstVerifier;
 use dns_names::Name;
-use dns_types::RecordType;
 use dns_wire::EmitError;
 use sec_digest::{Hmac, HmacHash, Mac};
 use sec_sigdata::{BorrowedTsig, TsigAlgorithm};
@@ -98,16 +96,15 @@ fn uses_hash(algorithm: &TsigAlgorithm, hash: HmacHash) -> bool
     }
 }
 
-/// The header of a request, where the octets are one message of records of types A and OPT.
+/// The header of a request, where the octets are one message without a transaction signature.
 #[tactic(auto, using(crate::proofs::Outlines::request_header_read, crate::proofs::Outlines::request_header_none))]
 fn request_header(octets: &[u8]) -> Option<Header>
     ensures exact { option_map header_view result ≡ request_header octets.now }
     ensures header { OnSome result (12 ≤ length octets.now) }
 {
-    let types = [RecordType::A, RecordType::OPT];
     match Outline::read(octets) {
         Ok(outline) => {
-            if outline.end == octets.len() && has_only(octets, &types) {
+            if outline.end == octets.len() && outline.signature.is_none() {
                 Some(outline.header)
             } else {
                 None

@@ -1,6 +1,6 @@
 //! Checking the answer to a signed request.
 ghost use Rattle.std.specs.Prelude.{◌≡◌, true, Ok};
-ghost use Rattle.dns_grammar.specs.Tables.{short_table};
+ghost use Rattle.dns_rdata.specs.RDataTable.{rdata_table};
 ghost use Rattle.dns_grammar.specs.Messages.{message_at};
 ghost use Rattle.std.specs.Option.{option_map, ForSome};
 ghost use Rattle.std.specs.Str.{bytes_eq};
@@ -15,11 +15,10 @@ use crate::first_set::FirstSet;
 use crate::header::Header;
 use crate::mac_input::feed_mac_input;
 use crate::outline::Outline;
-use crate::record_walk::{has_only, record_sets};
+use crate::record_walk::record_sets;
 use crate::signature_view::SignatureView;
 use crate::signer::FirstSigner;
 use crate::verify_error::VerifyError;
-use dns_types::RecordType;
 use sec_digest::Mac;
 use std::alloc::Global;
 use std::marker::Model;
@@ -57,9 +56,6 @@ pub enum FirstError {
     /// The octets are no message.
     #[error("no message")]
     Decode,
-    /// A record of another type than A, OPT and TSIG.
-    #[error("a record of a type that is not supported")]
-    NotBuilt,
     /// No valid answer to the request.
     #[error("no valid answer")]
     Invalid,
@@ -168,14 +164,10 @@ impl FirstVerifier {
         octets: &[u8],
         outline: &Outline<'_>,
     ) -> Result<Vec<FirstSet>, FirstError>
-        requires read { outlined (message_at short_table octets.now) ≡ Ok (outline_view outline.now) }
+        requires read { outlined (message_at rdata_table octets.now) ≡ Ok (outline_view outline.now) }
         requires placed { ForSome outline.now.signature (IsPlaced 12 octets.now outline.now.header) }
         ensures { GivesUnless FirstError.OutOfMemory (λ sets. sets.items) result (first_answer self.now octets.now) }
     {
-        let types = [RecordType::A, RecordType::OPT, RecordType::TSIG];
-        if !has_only(octets, &types) {
-            return Err(FirstError::NotBuilt);
-        }
         if self.verdict(octets, outline).is_err() {
             return Err(FirstError::Invalid);
         }
@@ -189,8 +181,7 @@ impl FirstVerifier {
     ///
     /// # Errors
     ///
-    /// `Decode` where the octets are no message, `NotBuilt` where it has a record of another type than A, OPT and TSIG,
-    /// and `Invalid` where its TSIG is missing, of another key or algorithm, has a MAC that is cut or wrong, where it
+    /// `Decode` where the octets are no message, and `Invalid` where its TSIG is missing, of another key or algorithm, has a MAC that is cut or wrong, where it
     /// was signed at a time whose window does not hold the time of the request, and where it is no response.
     /// `OutOfMemory` where there is none.
     pub fn answer(&self, alloc: Global, octets: &[u8]) -> Result<Vec<FirstSet>, FirstError>

@@ -225,13 +225,26 @@ fn wants_a_response(rt: HostRuntime) -> Result<(), Fail> {
 }
 
 #[test]
-fn refuses_other_types_and_octets_behind_a_request(rt: HostRuntime) -> Result<(), Fail> {
+fn looks_at_data_of_each_type(rt: HostRuntime) -> Result<(), Fail> {
     let alloc = rt.alloc();
     let mut text = ANSWER;
+    // a TXT whose first string goes past the data, and a NULL, which the MAC does not cover
     text[28] = 16;
-    assert_eq!(rt; refusal(alloc, 1000, &text)?, Some(FirstError::NotBuilt));
+    assert_eq!(rt; refusal(alloc, 1000, &text)?, Some(FirstError::Decode));
+    text[28] = 10;
+    assert_eq!(rt; refusal(alloc, 1000, &text)?, Some(FirstError::Invalid));
+    Ok(())
+}
+
+#[test]
+fn refuses_signed_requests_and_octets_behind_a_request(rt: HostRuntime) -> Result<(), Fail> {
+    let alloc = rt.alloc();
     let key = Vec::from_slice(alloc, &[0x0b; 20])?;
     let signer = FirstSigner::new(key, Name::from_ascii("k.")?, 300);
+    assert_eq!(rt;
+        signer.sign_request(alloc, &ANSWER, 1000).err(),
+        Some(FirstSignError::BadRequest)
+    );
     let mut longer = Vec::from_slice(alloc, &REQUEST)?;
     longer.push(0)?;
     assert_eq!(rt;
