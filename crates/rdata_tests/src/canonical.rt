@@ -1,4 +1,5 @@
 //! Canonical octets (RFC 4034 6.2, RFC 6840 5.1): names lowered in the types that RFC 4034 lists, and kept in NSEC.
+use crate::length::length;
 use dns_rdata::{NULL, RData};
 use dns_text::decode_hex;
 use dns_types::RecordType;
@@ -10,7 +11,7 @@ use std::test::Fail;
 fn canonical(alloc: Global, rtype: RecordType, hex: &str) -> Result<Vec<u8>, Fail> {
     let octets = decode_hex(alloc, hex.as_bytes())?.unwrap_or(Vec::new(alloc));
     let mut decoder = BinDecoder::new(octets.as_slice());
-    let rdata = RData::read(alloc, &mut decoder, rtype, octets.len() as u16)?;
+    let rdata = RData::read(alloc, &mut decoder, rtype, length(octets.as_slice()))?;
     Ok(rdata.canonical_octets(alloc)?)
 }
 

@@ -1,5 +1,6 @@
 //! Data that are refused: one octet too few or too many, and values that a field does not allow (RFC 1035 3.3, RFC 4034
 //! 2.1.2 and 4.1.2, RFC 5155 3.1, RFC 2535 3.1.2).
+use crate::length::length;
 use dns_rdata::RData;
 use dns_text::decode_hex;
 use dns_types::RecordType;
@@ -138,7 +139,7 @@ const NOT_ALLOWED: [(RecordType, &str, DecodeError); 10] = [
 /// The fault for which reading and checking refuse the octets, where both refuse them for the same, and leave the
 /// decoder in place.
 fn fault(alloc: Global, rtype: RecordType, octets: &[u8]) -> Option<DecodeError> {
-    let length = octets.len() as u16;
+    let length = length(octets);
     let mut reader = BinDecoder::new(octets);
     let read = RData::read(alloc, &mut reader, rtype, length).err()?;
     let mut checker = BinDecoder::new(octets);

@@ -4,5 +4,6 @@
 mod canonical;
 mod faults;
 mod jumps;
+mod length;
 mod rows;
 mod values;

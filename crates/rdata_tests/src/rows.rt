@@ -1,5 +1,6 @@
 //! Data of each type read, checked, written, printed and read again. Octets and texts are spelled out from the RFC of
 //! the type, base64 by Python's `base64.b64encode`, base32 from RFC 4648 7 and RFC 5155 3.3.
+use crate::length::length;
 use dns_rdata::RData;
 use dns_text::decode_hex;
 use dns_types::RecordType;
@@ -88,14 +89,13 @@ const SECURITY: [(RecordType, &str, &str); 11] = [
 
 /// The data that are read of all these octets.
 fn read(alloc: Global, rtype: RecordType, octets: &[u8]) -> Result<RData, DecodeError> {
-    let length = octets.len() as u16;
-    RData::read(alloc, &mut BinDecoder::new(octets), rtype, length)
+    RData::read(alloc, &mut BinDecoder::new(octets), rtype, length(octets))
 }
 
 /// Whether a check lets all these octets through, and goes behind them.
 fn is_checked(rtype: RecordType, octets: &[u8]) -> bool {
     let mut decoder = BinDecoder::new(octets);
-    let result = RData::check(&mut decoder, rtype, octets.len() as u16);
+    let result = RData::check(&mut decoder, rtype, length(octets));
     result.is_ok() && decoder.len() == 0
 }
 
