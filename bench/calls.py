@@ -55,7 +55,8 @@ fn digests(alloc: Global, rounds: u64) -> anyhow::Result<u64> {
     let data = vec![in alloc; 7u8; 65_531]?;
     let mut from = 0;
     for _ in 0..rounds {
-        if let Ok(digest) = Digest::from_iter(&[1], &data[from..], DigestType::SHA256) {
+        let octets = data.get(from..).unwrap_or(&[]);
+        if let Ok(digest) = Digest::from_iter(&[1], octets, DigestType::SHA256) {
             from = usize::from(digest.as_slice().first().copied().unwrap_or(0) % 2);
         }
     }
@@ -79,7 +80,7 @@ fn sets(alloc: Global, rounds: u64) -> anyhow::Result<u64> {
     for _ in 0..rounds {
         let types = [1u16, 2, 6, 46, 47, 48, last].map(RecordType::from);
         let set = RecordTypeSet::new(alloc, &types)?;
-        last = u16::from(set.as_octets().len() as u8);
+        last = u16::from(set.as_octets().first().copied().unwrap_or(1));
     }
     Ok(u64::from(last))
 }
