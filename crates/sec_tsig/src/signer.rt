@@ -216,9 +216,9 @@ impl FirstSigner {
     ///
     /// # Errors
     ///
-    /// `BadRequest` where the octets are no message, where octets stand behind it, where it has a record of another
-    /// type than A and OPT or 65,535 additional records, and where the signed request would have more than 65,535
-    /// octets. `OutOfMemory` where there is none.
+    /// `BadRequest` where the octets are no message, where octets stand behind it, where it has a transaction signature
+    /// or 65,535 additional records, and where the signed request would have more than 65,535 octets. `OutOfMemory`
+    /// where there is none.
     pub fn sign_request(
         &self,
         alloc: Global,
