@@ -37,16 +37,32 @@ QUESTION = bytes.fromhex("076578616d706c650000010001")
 ALGORITHM = bytes.fromhex("0b686d61632d73686132353600")
 
 
-def signed(records):
-    """The octets of a response with these answers, signed at the time 1000 (RFC 8945 4.3)."""
-    header = struct.pack(">6H", 0x1234, 0x8180, 1, len(records), 0, 0)
-    body = QUESTION + b"".join(records)
-    times = struct.pack(">HIH", 0, 1000, 300)
-    variables = b"\x01k\0" + struct.pack(">HI", 255, 0) + ALGORITHM + times + struct.pack(">HH", 0, 0)
-    mac = hmac.new(SECRET, struct.pack(">H", 32) + REQUEST_MAC + header + body + variables, hashlib.sha256).digest()
-    data = ALGORITHM + times + struct.pack(">H", 32) + mac + struct.pack(">HHH", 0x1234, 0, 0)
+TIMES = struct.pack(">HIH", 0, 1000, 300)
+VARIABLES = b"\x01k\0" + struct.pack(">HI", 255, 0) + ALGORITHM + TIMES + struct.pack(">HH", 0, 0)
+
+
+def response(records):
+    """The octets of a response with these answers."""
+    return struct.pack(">6H", 0x1234, 0x8180, 1, len(records), 0, 0) + QUESTION + b"".join(records)
+
+
+def signed(message, before=REQUEST_MAC, covered=VARIABLES):
+    """A response signed at the time 1000 behind a MAC, and its own MAC (RFC 8945 4.3)."""
+    mac = hmac.new(SECRET, struct.pack(">H", 32) + before + message + covered, hashlib.sha256).digest()
+    data = ALGORITHM + TIMES + struct.pack(">H", 32) + mac + struct.pack(">HHH", 0x1234, 0, 0)
     tsig = b"\x01k\0" + struct.pack(">HHIH", 250, 255, 0, len(data)) + data
-    return header[:10] + b"\0\x01" + body + tsig
+    return message[:10] + b"\0\x01" + message[12:] + tsig, mac
+
+
+def stream(message):
+    """As many lines of this response, each signed behind the one before it, as a script has room for."""
+    octets, mac = signed(message)
+    lines, room = [], LIMIT - len(KEY + REQUEST)
+    while len(octets) * 2 + 10 <= room:
+        lines.append(b"answer 0 " + octets.hex().encode() + b"\n")
+        room -= len(lines[-1])
+        octets, mac = signed(message, mac, TIMES)
+    return KEY + REQUEST + b"".join(lines)
 
 
 def address(owner):
@@ -59,12 +75,12 @@ def chained():
     places = range(start, start + 2 * 8_172, 2)
     chain = b"".join(struct.pack(">H", 0xC000 | (place - 2 if place > start else 12)) for place in places)
     opt = b"\0" + struct.pack(">HHIH", 41, 1232, 0, len(chain)) + chain
-    return signed([opt] + [address(struct.pack(">H", 0xC000 | places[-1]))] * 2_700)
+    return response([opt] + [address(struct.pack(">H", 0xC000 | places[-1]))] * 2_700)
 
 
 def ordinary():
     """3,700 addresses whose owner is a pointer to the question."""
-    return signed([address(b"\xc0\x0c")] * 3_700)
+    return response([address(b"\xc0\x0c")] * 3_700)
 
 
 def filled(front, line, back):
@@ -89,8 +105,10 @@ def inputs():
     yield "a key of 8 million octets", 1, filled(b"key hmac-sha256 k. 300 ", b"0b", b"\n" + REQUEST + short)
     yield "one line of 8 million words", 2, filled(KEY + REQUEST + b"answer 0", b" 0", b"\n")
     for name, message in ("8,172 pointers to each of 2,700 owners", chained()), ("3,700 ordinary owners", ordinary()):
-        script = KEY + REQUEST + b"answer 0 " + message.hex().encode() + b"\n"
-        yield f"an answer of {len(message):,} octets, {name}", 0, script
+        octets = signed(message)[0]
+        script = KEY + REQUEST + b"answer 0 " + octets.hex().encode() + b"\n"
+        yield f"an answer of {len(octets):,} octets, {name}", 0, script
+        yield f"such answers up to the limit, {name}", 0, stream(message)
     yield "one octet more than the limit", 6, b"\n" * (LIMIT + 1)
 
 

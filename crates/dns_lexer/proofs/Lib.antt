@@ -1,0 +1,5 @@
+pub mod Units
+pub mod Gaps
+pub mod Steps
+pub mod Taking
+pub mod Groups
