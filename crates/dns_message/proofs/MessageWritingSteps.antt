@@ -1,0 +1,100 @@
+-- A message written: the counts of its header, and its parts one behind the other.
+use Rattle.std.proofs.Common.{◌≡◌, ◌⊎◌, inl, inr, ℕ, ◌+◌, ◌-◌, ◌^◌, min, Bool, true, false, cond, ltb, List, [], ◌∷◌, ◌++◌}
+use Rattle.std.proofs.Common.{length, map, Option, Some, None, option_map, Result, Ok, Err, refl, sym, ap, ◌∙◌, arith}
+use Rattle.std.proofs.Common.{length-append}
+use Rattle.std.specs.Prelude.{is_some}
+use Rattle.std.proofs.lemmas.Bool.{ltb-false}
+use Rattle.std.proofs.lemmas.List.{length-map}
+use Rattle.dns_wire.specs.declared.error.EmitError.{EmitError}
+use Rattle.dns_wire.specs.declared.error.EmitError.TheVariants.{CountTooLarge}
+use Rattle.dns_wire.specs.Octets.{two_octets}
+use Rattle.dns_grammar.specs.Fields.{joined, each_octets}
+use Rattle.dns_grammar.specs.MessageWriting.{count_octets, header_octets, query_octets}
+use Rattle.dns_rdata.specs.declared.rdata.RData.{RData}
+use Rattle.sec_sigdata.specs.declared.tsig.TSIG.{TSIG}
+use Rattle.dns_message.specs.declared.message.Message.{Message}
+use Rattle.dns_message.specs.declared.query.Query.{Query}
+use Rattle.dns_message.specs.declared.record.Record.{Record}
+use Rattle.dns_message.specs.MessageWriting.{written_record, written_tsig_record, option_octets}
+use Rattle.dns_message.specs.Parts.{Parts, record_view, tsig_record_view, message_parts, and_last, whole}
+use Rattle.dns_message.specs.Views.{query_view}
+use Rattle.dns_message.proofs.GrowingSteps.{Written}
+
+-- ---- counts
+
+abbrev counted : ℕ → Result ℕ EmitError
+counted k = cond (ltb 65535 k) (Err CountTooLarge) (Ok k)
+
+is_counted : (b : Bool) (k n : ℕ) → cond b (Err CountTooLarge) (let ok : Result ℕ EmitError = Ok k in ok) ≡ Ok n
+    → (b ≡ false) × (k ≡ n)
+is_counted true k n e = absurd cc
+is_counted false k n e = (refl, cc)
+
+pub count_is : {A : Type 0} (xs : List A) (k n : ℕ) → k ≡ length xs → counted k ≡ Ok n
+    → count_octets xs ≡ Ok (two_octets n)
+count_is xs k n same is =
+    let c = is_counted (ltb 65535 k) k n is in
+    let short : ltb 65535 (length xs) ≡ false = ap (ltb 65535) (sym same) ∙ c.0 in
+    rw short (ap (λ (j : ℕ). let ok : Result (List ℕ) EmitError = Ok (two_octets j) in ok) (sym same ∙ c.1))
+
+-- the additionals, and a signature
+last_count : (adds : List (Record RData)) (signature : Option (Record TSIG)) (s : ℕ)
+    → (is_some signature ≡ true) × (s ≡ 1) ⊎ (is_some signature ≡ false) × (s ≡ 0)
+    → length (and_last (map record_view adds) (option_map tsig_record_view signature)) ≡ length adds + s
+last_count adds None s (inl h) = absurd (cc h.0)
+last_count adds None s (inr h) = omega (arith, length-map adds record_view, h.1)
+last_count adds (Some rr) s (inl h) =
+    omega (arith, length-append (map record_view adds) (tsig_record_view rr ∷ []), length-map adds record_view, h.1)
+last_count adds (Some rr) s (inr h) = absurd (cc h.0)
+
+pub last_count_is : (adds : List (Record RData)) (signature : Option (Record TSIG)) (s k n : ℕ)
+    → (is_some signature ≡ true) × (s ≡ 1) ⊎ (is_some signature ≡ false) × (s ≡ 0)
+    → k ≡ min (length adds + s) (2 ^ 64 - 1) → counted k ≡ Ok n
+    → count_octets (and_last (map record_view adds) (option_map tsig_record_view signature)) ≡ Ok (two_octets n)
+last_count_is adds signature s k n has sum is =
+    let c = is_counted (ltb 65535 k) k n is in
+    count_is _ k n (omega (arith, sum, ltb-false _ _ c.0, last_count adds signature s has)) is
+
+pub header_is : (parts : Parts) (q a n d : ℕ)
+    → count_octets parts.queries ≡ Ok (two_octets q)
+    → count_octets parts.answers ≡ Ok (two_octets a)
+    → count_octets parts.authorities ≡ Ok (two_octets n)
+    → count_octets (and_last parts.additionals parts.signature) ≡ Ok (two_octets d)
+    → header_octets (whole parts)
+    ≡ Ok ((two_octets parts.id ++ two_octets parts.flags)
+    ++ (two_octets q ++ (two_octets a ++ (two_octets n ++ two_octets d))))
+header_is parts q a n d hq ha hn hd = λ i.
+    joined (Ok (two_octets parts.id ++ two_octets parts.flags))
+    (joined (hq i) (joined (ha i) (joined (hn i) (hd i))))
+
+-- ---- the parts of a message
+
+abbrev pub header_written : Message → Written
+header_written message canonical encoding = header_octets (whole (message_parts message))
+
+abbrev pub queries_written : List Query → Written
+queries_written queries canonical encoding = each_octets (λ query. query_octets encoding (query_view query)) queries
+
+abbrev pub records_written : List (Record RData) → Written
+records_written rrs canonical encoding = each_octets (written_record canonical encoding) rrs
+
+abbrev pub signature_written : Message → Written
+signature_written message canonical encoding = option_octets (written_tsig_record canonical encoding) message.signature
+
+abbrev pub both : Written → Written → Written
+both first rest canonical encoding = joined (first canonical encoding) (rest canonical encoding)
+
+abbrev pub additionals_on : Message → Written
+additionals_on message = both (records_written message.additionals.items) (signature_written message)
+
+abbrev pub authorities_on : Message → Written
+authorities_on message = both (records_written message.authorities.items) (additionals_on message)
+
+abbrev pub answers_on : Message → Written
+answers_on message = both (records_written message.answers.items) (authorities_on message)
+
+abbrev pub queries_on : Message → Written
+queries_on message = both (queries_written message.queries.items) (answers_on message)
+
+abbrev pub message_on : Message → Written
+message_on message = both (header_written message) (queries_on message)

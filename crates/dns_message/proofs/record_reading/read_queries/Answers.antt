@@ -1,0 +1,18 @@
+use Rattle.std.proofs.Common.{sym, subst, ◌∙◌}
+use Rattle.dns_grammar.specs.Messages.{query_at}
+use Rattle.dns_message.specs.Views.{query_view}
+use Rattle.dns_message.proofs.ValuesRead.{value_put}
+use Rattle.dns_names.specs.Jumps.{AreJumps}
+use Rattle.dns_wire.specs.Reading.{octets, place}
+use Rattle.dns_message.proofs.record_reading.read_queries.Goals as goal
+
+pub queries-preserved : goal.queries-preserved
+queries-preserved c =
+    let read = c.in_ok-query.ensures.exact in
+    record {
+      left = value_put query_view (λ m p. query_at m p) (octets c.queries.reader) (octets c.read_with.new.decoder)
+          c.queries.queries.items c.push.new.self.items c.in_ok-query.query c.args.count c.queries.counter (place c.queries.reader)
+          (place c.read_with.new.decoder) _ c.queries.invariant.left c.queries-test.true read.0 read.1 c.in_ok-push.ensures.items;
+      same = read.1 ∙ c.queries.invariant.same;
+      jumps = subst (λ m. AreJumps m c.read_with.new.jumps) (sym read.1) c.in_ok-query.ensures.jumps;
+    }
