@@ -13,7 +13,7 @@ use std::alloc::Global;
 
 /// Gives the tokens of a text, one at a time, and copies each word once. A contract sees what is left for it, by
 /// `items_left`.
-#[derive(Debug)]
+#[derive(Clone, Copy, Debug)]
 pub struct Lexer<'a> {
     rest: &'a str,
     starts_line: bool,

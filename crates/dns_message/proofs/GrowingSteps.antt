@@ -1,13 +1,12 @@
 -- Pieces written one behind the other.
-use Rattle.std.proofs.Common.{◌≡◌, ◌⊎◌, inl, inr, ℕ, ◌+◌, ◌<◌, Bool, List, [], ◌++◌, length, get_or, Result, Ok, Err}
-use Rattle.std.proofs.Common.{refl, sym, ap, subst, ◌∙◌, append_assoc, append-nil}
+use Rattle.std.proofs.Common.{◌≡◌, ◌⊎◌, inl, inr, ℕ, ◌+◌, Bool, List, [], ◌++◌, Result, Ok, Err, sym, ap, subst, ◌∙◌}
+use Rattle.std.proofs.Common.{append_assoc, append-nil}
 use Rattle.dns_wire.specs.declared.encoder.NameEncoding.{NameEncoding}
 use Rattle.dns_wire.specs.declared.error.EmitError.{EmitError}
 use Rattle.dns_wire.specs.declared.error.EmitError.TheVariants.{OutOfMemory}
 use Rattle.dns_wire.specs.Writing.{Output, Writes}
-use Rattle.dns_grammar.specs.Fields.{joined, each_octets}
+use Rattle.dns_grammar.specs.Fields.{joined}
 use Rattle.dns_grammar.specs.FieldsOut.{Grows}
-use Rattle.dns_grammar.proofs.FieldOutLaws.{HasPut, put_more, put_fails}
 
 -- what is written of a thing under the switches of an encoder
 abbrev pub Written : Type 0
@@ -37,7 +36,8 @@ fails old new e first rest w = (w.0, w.1, why w.2)
     why (inr is) = inr (ap (λ r. joined r rest) is)
 
 -- a piece that was written, and then the rest
-behind : (old mid new : Output) (u : Unit {0}) (r : Result (Unit {0}) EmitError) (first rest : Result (List ℕ) EmitError)
+behind : (old mid new : Output) (u : Unit {0}) (r : Result (Unit {0}) EmitError)
+    (first rest : Result (List ℕ) EmitError)
     → Grows (Ok u) old mid first → Grows r mid new rest → Grows r old new (joined first rest)
 behind old mid new u r (Err e) rest w v = absurd w
 behind old mid new u (Ok t) (Ok x) (Err e) w v = absurd v
@@ -96,21 +96,3 @@ behind_fails old now new e whole first rest h w =
 abbrev pub under_encoding : {A : Type 0} → (Bool → NameEncoding → A → Result (List ℕ) EmitError) → Output → Bool → A
     → Result (List ℕ) EmitError
 under_encoding written old canonical x = written canonical old.name_encoding x
-
-module _ {A : Type 0} (written : Bool → NameEncoding → A → Result (List ℕ) EmitError) (xs : List A) (i : ℕ) (x : A)
-    (old now new : Output) (lt : i < length xs) (is : x ≡ get_or xs i x)
-    (h : HasPut (under_encoding written old) xs i old now) where
-  same_encoding : written now.canonical_form now.name_encoding x ≡ written now.canonical_form old.name_encoding x
-  same_encoding = ap (λ (o : Output). written now.canonical_form o.name_encoding x) h.output
-
-  pub each_more : (u : Unit {0}) → Writes (Ok u) now new (written now.canonical_form now.name_encoding x)
-      → HasPut (under_encoding written old) xs (i + 1) old new
-  each_more u w =
-      put_more (under_encoding written old) xs i x old now new u lt is h
-      (subst (λ g. Writes (Ok u) now new g) same_encoding w)
-
-  pub each_fails : (e : EmitError) → Writes (Err e) now new (written now.canonical_form now.name_encoding x)
-      → Grows (Err e) old new (each_octets (under_encoding written old old.canonical_form) xs)
-  each_fails e w =
-      put_fails (under_encoding written old) xs i x old now new e lt is h
-      (subst (λ g. Writes (Err e) now new g) same_encoding w)

@@ -1,5 +1,5 @@
 -- What stands in octets is in its range.
-use Rattle.std.proofs.Common.{◌≡◌, ℕ, zero, suc, ◌+◌, ◌^◌, ◌≤◌, ◌<◌, List, [], ◌∷◌, length, take, drop, get_or, Option, None}
+use Rattle.std.proofs.Common.{◌≡◌, ℕ, zero, suc, ◌+◌, ◌<◌, List, [], ◌∷◌, length, take, drop, get_or, Option, None}
 use Rattle.std.proofs.Common.{Some, Ok, refl, sym, ap, subst, ◌∙◌, arith}
 use Rattle.std.proofs.lemmas.List.{length-take, length-drop}
 use Rattle.std.specs.Int.{byte_len, from_be_bytes}
@@ -7,9 +7,10 @@ use Rattle.dns_wire.specs.Octets.{AreOctets}
 use Rattle.dns_wire.specs.Reading.{OctetsAt, NumberAt}
 use Rattle.dns_names.proofs.PlaceLaws.{name_of_octets}
 use Rattle.dns_grammar.specs.Fields.{Size, One, Two, Four, width, limit, Kind, Number, Time, Fixed, Counted, Strings}
-use Rattle.dns_grammar.specs.Fields.{Rest, Lowered, Kept, Value, Num, Str, Strs, Named, Field, row_of, ValueAt, FieldsAt}
+use Rattle.dns_grammar.specs.Fields.{Rest, Lowered, Kept, Value, Num, Str, Strs, Named, Field, row_of, ValueAt}
+use Rattle.dns_grammar.specs.Fields.{FieldsAt}
 use Rattle.dns_grammar.specs.Laws.{Holds, HoldsAll, HoldsData}
-use Rattle.dns_grammar.specs.RecordData.{RDataAt, rdata_at, plain}
+use Rattle.dns_grammar.specs.RecordData.{RDataAt, plain}
 use Rattle.dns_grammar.proofs.DataLaws.{rdata_stands, rdata_read}
 use Rattle.dns_rdata.specs.RDataTable.{rdata_table}
 use Rattle.dns_rdata.proofs.TableLaws.{read_again}

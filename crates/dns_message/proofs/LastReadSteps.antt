@@ -1,5 +1,6 @@
 -- The last additional record read into memory, where it is a transaction signature.
-use Rattle.std.proofs.Common.{◌≡◌, ◌⊎◌, inl, inr, sym, ℕ, Bool, true, false, cond, eqb, ◌&&◌, List, Option, Some, None, Result, Ok, Err, refl, ap, ◌∙◌}
+use Rattle.std.proofs.Common.{◌≡◌, ◌⊎◌, inl, inr, sym, ℕ, Bool, true, false, cond, eqb, ◌&&◌, List, Option, Some, None}
+use Rattle.std.proofs.Common.{Result, Ok, Err, refl, ap, ◌∙◌}
 use Rattle.dns_wire.specs.declared.error.DecodeError.{DecodeError}
 use Rattle.dns_wire.specs.declared.error.DecodeError.TheVariants.{OutOfMemory}
 use Rattle.dns_wire.specs.Reading.{◌>>=◌}
@@ -8,7 +9,7 @@ use Rattle.dns_grammar.specs.RecordData.{tsig_type, one_type_data_at, rdata_at}
 use Rattle.dns_grammar.specs.Tables.{tsig_row}
 use Rattle.dns_grammar.specs.Messages.{RecordHead, ResourceRecord, with_data, head_at, record_at}
 use Rattle.dns_rdata.specs.RDataTable.{rdata_table}
-use Rattle.dns_message.specs.OwnedMessages.{unplaced_at}
+use Rattle.dns_message.specs.MessageReading.{unplaced_at}
 
 -- the record with these data
 abbrev pub signature : RecordHead → List Value → ResourceRecord
@@ -46,7 +47,8 @@ by_data m p h r head is =
 
 -- the same, the octets and the place being known by other names
 module _ (m : List ℕ) (p : ℕ) (k : List ℕ) (at : ℕ) (l : List ℕ) (h : RecordHead) (r : ℕ) where
-  pub tsig_read : (values : List Value) (q : ℕ) → k ≡ m → at ≡ p → head_at k at ≡ Ok (h, r) → h.rtype ≡ tsig_type → l ≡ k
+  pub tsig_read : (values : List Value) (q : ℕ) → k ≡ m → at ≡ p → head_at k at ≡ Ok (h, r) → h.rtype ≡ tsig_type
+      → l ≡ k
       → one_type_data_at tsig_row l r h.data_length ≡ Ok (values, q)
       → unplaced_at (record_at rdata_table true m p) ≡ Ok (signature h values, q)
   tsig_read values q same here head is again read =

@@ -1,6 +1,6 @@
 -- A message that was read can be read again, once it is written.
-use Rattle.std.proofs.Common.{◌≡◌, ◌≢◌, ℕ, ◌+◌, ◌^◌, ◌≤◌, ◌<◌, Bool, true, false, List, [], ◌∷◌, ◌++◌, length, map, Option, Some}
-use Rattle.std.proofs.Common.{None, option_map, Result, Ok, Err, refl, sym, ap, subst, ◌∙◌, append_assoc, append-nil}
+use Rattle.std.proofs.Common.{◌≡◌, ℕ, ◌+◌, false, List, [], ◌∷◌, ◌++◌, length, map, Option, Some, None, option_map}
+use Rattle.std.proofs.Common.{Result, Ok, Err, refl, sym, ap, ◌∙◌, append_assoc, append-nil}
 use Rattle.std.proofs.lemmas.List.{length-map, map-append}
 use Rattle.std.specs.Prelude.{nat_lt, if◌then◌else◌}
 use Rattle.std.specs.List.{AllByRecursion}
@@ -12,24 +12,22 @@ use Rattle.dns_wire.specs.Octets.{AreOctets, two_octets}
 use Rattle.dns_wire.specs.Reading.{◌>>=◌}
 use Rattle.dns_wire.proofs.FieldLaws.{is_ok_same}
 use Rattle.dns_names.proofs.PlaceLaws.{name_of_octets}
-use Rattle.dns_grammar.specs.Fields.{Two, Four, Field, joined, each_octets, row_of}
-use Rattle.dns_grammar.specs.RecordData.{tsig_type, rdata_octets, fitting}
+use Rattle.dns_grammar.specs.Fields.{Two, Four, Field, joined, each_octets}
+use Rattle.dns_grammar.specs.RecordData.{rdata_octets}
 use Rattle.dns_grammar.specs.Laws.{IsQuery, IsRecord, IsMessage, unplaced_record, unplaced, read_unplaced}
 use Rattle.dns_grammar.specs.Messages.{Query, ResourceRecord, EachAt, QueryAt, RecordAt, MessageAt, records, message_at}
 use Rattle.dns_grammar.specs.Messages as grammar
 use Rattle.dns_grammar.specs.MessageWriting.{count_octets, header_octets, query_octets, record_octets, message_octets}
 use Rattle.dns_grammar.proofs.FieldOutLaws.{joined_nil}
 use Rattle.dns_grammar.proofs.MessageBack.{written_message}
-use Rattle.dns_grammar.proofs.MessageLaws.{message_stands}
 use Rattle.dns_rdata.specs.declared.rdata.RData.{RData}
-use Rattle.dns_rdata.specs.RData.{rdata_row, rdata_type, rdata_values}
+use Rattle.dns_rdata.specs.RData.{rdata_values}
 use Rattle.dns_rdata.specs.RDataTable.{rdata_table}
 use Rattle.dns_rdata.proofs.TableLaws.{rest_last, row_of_type}
 use Rattle.sec_sigdata.specs.declared.tsig.TSIG.{TSIG}
 use Rattle.dns_message.specs.declared.message.Message.{Message}
-use Rattle.dns_message.specs.declared.query.Query as declared
 use Rattle.dns_message.specs.declared.record.Record.{Record}
-use Rattle.dns_message.specs.Laws.{parts_and_end, MessageIsReadAgain}
+use Rattle.dns_message.specs.Laws.{MessageIsReadAgain}
 use Rattle.dns_message.specs.MessageWriting as own
 use Rattle.dns_message.specs.MessageWriting.{written_record, written_tsig_record, option_octets}
 use Rattle.dns_message.specs.OwnedMessages.{IsReadRecord, IsReadMessage}

@@ -1,11 +1,11 @@
 -- The parts of a message, and the message of these parts.
-use Rattle.std.proofs.Common.{◌≡◌, ℕ, zero, suc, Bool, true, false, cond, eqb, List, [], ◌∷◌, ◌++◌, length, map, Option, Some}
-use Rattle.std.proofs.Common.{None, option_map, option_and_then, refl, sym, ap, ◌∙◌}
+use Rattle.std.proofs.Common.{◌≡◌, Bool, true, false, cond, eqb, List, [], ◌∷◌, ◌++◌, length, map, Option, Some, None}
+use Rattle.std.proofs.Common.{option_map, option_and_then, refl, sym, ap, ◌∙◌}
 use Rattle.std.proofs.lemmas.List.{map-append, length-map}
 use Rattle.dns_grammar.specs.RecordData.{tsig_type}
 use Rattle.dns_grammar.specs.Laws.{unplaced_record, unplaced}
-use Rattle.dns_grammar.specs.Messages.{Header, Query, ResourceRecord, Message, IsCounted, last_of, before_last}
-use Rattle.dns_message.specs.Parts.{Parts, if_tsig, last_tsig, before_tsig, parts_of, and_last, whole}
+use Rattle.dns_grammar.specs.Messages.{ResourceRecord, Message, IsCounted, last_of, before_last}
+use Rattle.dns_message.specs.Parts.{if_tsig, last_tsig, before_tsig, parts_of, and_last, whole}
 
 -- ---- lists
 

@@ -1,9 +1,8 @@
 -- The parts of a message, by what stands before its last additional.
-use Rattle.std.proofs.Common.{◌≡◌, ◌≢◌, ◌⊎◌, inl, inr, ℕ, zero, suc, ◌-◌, Bool, true, false, eqb, List, [], ◌∷◌, ◌++◌, map}
-use Rattle.std.proofs.Common.{Option, Some, None, option_map, Result, Ok, Err, refl, sym, ap, ◌∙◌, cond, arith}
+use Rattle.std.proofs.Common.{◌≡◌, ◌≢◌, ◌⊎◌, inl, inr, ℕ, zero, suc, ◌-◌, Bool, true, false, eqb, List, [], ◌∷◌, ◌++◌}
+use Rattle.std.proofs.Common.{map, Option, Some, None, Result, Ok, Err, refl, sym, ap, ◌∙◌, cond, arith, eq-eqb}
 use Rattle.std.proofs.lemmas.List.{map-append}
 use Rattle.std.proofs.lemmas.Bool.{ne_eqb}
-use Rattle.std.proofs.Common.{eq-eqb}
 use Rattle.dns_wire.specs.declared.error.DecodeError.{DecodeError}
 use Rattle.dns_wire.specs.declared.error.DecodeError.TheVariants.{OutOfMemory}
 use Rattle.dns_wire.specs.Reading.{◌>>=◌, each_at}
@@ -15,8 +14,9 @@ use Rattle.dns_grammar.proofs.EachLaws.{last_of-more, before_last-more}
 use Rattle.dns_grammar.proofs.HeadLaws.{record_stands}
 use Rattle.dns_grammar.proofs.OutlineLaws.{additionals_split}
 use Rattle.dns_rdata.specs.RDataTable.{rdata_table}
-use Rattle.dns_message.specs.Parts.{Parts, last_tsig, before_tsig, if_tsig, parts_of}
-use Rattle.dns_message.specs.OwnedMessages.{Placed, standing, parts_at, unplaced_at, others_at, parts_ahead_at}
+use Rattle.dns_message.specs.Parts.{Parts, last_tsig}
+use Rattle.dns_message.specs.MessageReading.{parts_at, unplaced_at, others_at, parts_ahead_at}
+use Rattle.dns_message.specs.OwnedMessages.{Placed, standing}
 use Rattle.dns_message.proofs.ValuesRead.{all_shown, each_shown}
 
 -- ---- steps

@@ -1,7 +1,7 @@
 -- Where the proofs of records in one word are Bogus.
-use Rattle.std.proofs.Common.{◌≡◌, ◌≢◌, ℕ, zero, suc, ◌+◌, ◌<◌, Bool, true, false, cond, ◌&&◌, ◌||◌, not, eqb, List, [], ◌∷◌}
-use Rattle.std.proofs.Common.{map, length, get_or, refl, sym, ap, subst, ◌∙◌, arith}
-use Rattle.std.specs.List.{filter, list_any, list_all, Contains}
+use Rattle.std.proofs.Common.{◌≡◌, ℕ, zero, suc, ◌<◌, Bool, true, false, cond, ◌||◌, not, eqb, List, [], ◌∷◌, map}
+use Rattle.std.proofs.Common.{length, get_or, refl, sym, ap, ◌∙◌, arith}
+use Rattle.std.specs.List.{filter, list_any, Contains}
 use Rattle.std.proofs.lemmas.Bool.{eqb-false, ne_eqb}
 use Rattle.dns_types.specs.TypeNumbers as types
 use Rattle.dns_rdata.specs.declared.rdata.RData.{RData}
@@ -12,7 +12,7 @@ use Rattle.dns_message.specs.declared.dnssec.DnssecSummary.{DnssecSummary}
 use Rattle.dns_message.specs.declared.dnssec.DnssecSummary.TheVariants.{Secure, Bogus, Insecure}
 use Rattle.dns_message.specs.declared.record.Record.{Record}
 use Rattle.dns_message.specs.Laws.{IsBogusRecord, BogusWhereOneIs}
-use Rattle.dns_message.specs.Summary.{is_bogus, is_secure, shown_proofs, has_one, summary}
+use Rattle.dns_message.specs.Summary.{is_bogus, shown_proofs}
 
 abbrev is_rrsig : Record RData → Bool
 is_rrsig rr = eqb (rdata_type rr.rdata) types.RRSIG

@@ -1,6 +1,6 @@
 -- Proofs of records in one word, record by record.
 use Rattle.std.proofs.Common.{◌≡◌, ℕ, ◌+◌, ◌<◌, ◌≤◌, Bool, true, false, cond, ◌&&◌, ◌||◌, not, eqb, List, [], ◌∷◌, map}
-use Rattle.std.proofs.Common.{length, get_or, drop, refl, sym, ap, ◌∙◌, add-one, drop-cons, arith}
+use Rattle.std.proofs.Common.{length, get_or, drop, refl, sym, ap, ◌∙◌, add-one, drop-cons}
 use Rattle.std.specs.List.{filter, list_any, list_all}
 use Rattle.std.proofs.lemmas.List.{drop_all}
 use Rattle.dns_types.specs.TypeNumbers as types
@@ -10,7 +10,7 @@ use Rattle.sec_codes.specs.declared.proof.Proof.{Proof}
 use Rattle.dns_message.specs.declared.dnssec.DnssecSummary.{DnssecSummary}
 use Rattle.dns_message.specs.declared.dnssec.DnssecSummary.TheVariants.{Secure, Bogus, Insecure}
 use Rattle.dns_message.specs.declared.record.Record.{Record}
-use Rattle.dns_message.specs.Summary.{is_bogus, is_secure, shown_proofs, has_one, summary}
+use Rattle.dns_message.specs.Summary.{is_bogus, is_secure, shown_proofs, has_one}
 
 -- the word for these proofs behind others, none of them Bogus, of which this is known
 abbrev pub judged : Bool → Bool → List Proof → DnssecSummary

@@ -1,7 +1,6 @@
 -- A view and a message that were read of the same octets agree.
 use Rattle.std.proofs.Common.{◌≡◌, ◌⊎◌, inl, inr, ℕ, Bool, true, false, cond, eqb, List, Option, Some, None, option_map}
-use Rattle.std.proofs.Common.{option_and_then, Result, Ok, Err, refl, sym, ap, subst, ◌∙◌}
-use Rattle.std.proofs.lemmas.Bool.{eqb-true}
+use Rattle.std.proofs.Common.{option_and_then, Result, Ok, Err, refl, sym, ap, ◌∙◌}
 use Rattle.dns_wire.specs.declared.error.DecodeError.{DecodeError}
 use Rattle.dns_wire.specs.declared.error.DecodeError.TheVariants.{OutOfMemory}
 use Rattle.dns_wire.specs.Reading.{◌>>=◌}
@@ -14,15 +13,12 @@ use Rattle.dns_grammar.specs.Messages.{tsig_from_values, signature_of, outline_o
 use Rattle.dns_grammar.proofs.MessageLaws.{message_stands}
 use Rattle.dns_rdata.specs.RDataTable.{rdata_table}
 use Rattle.sec_sigdata.specs.declared.tsig.TSIG.{TSIG}
-use Rattle.sec_sigdata.specs.TsigRecords.{tsig_data}
-use Rattle.dns_message.specs.declared.message.Message.{Message}
-use Rattle.dns_message.specs.declared.message.Places.{Places}
 use Rattle.dns_message.specs.declared.record.Record.{Record}
 use Rattle.dns_message.specs.declared.view.MessageView.{MessageView}
-use Rattle.dns_message.specs.Laws.{held_signature, ShowsMessage, ViewShowsMessage, OneFault}
-use Rattle.dns_message.specs.OwnedMessages.{Placed, held, standing, ReadsMessage}
-use Rattle.dns_message.specs.Parts.{Parts, tsig_record_view, message_parts, if_tsig, last_tsig, parts_of, whole}
-use Rattle.dns_message.specs.Views.{header_view, tsig_view, view_header, view_end, view_tsig, outline_view, outlined}
+use Rattle.dns_message.specs.Laws.{held_signature, ViewShowsMessage, OneFault}
+use Rattle.dns_message.specs.OwnedMessages.{Placed, held, standing}
+use Rattle.dns_message.specs.Parts.{Parts, tsig_record_view, message_parts, if_tsig, parts_of, whole}
+use Rattle.dns_message.specs.Views.{header_view, view_header, outline_view, outlined}
 use Rattle.dns_message.specs.Views.{ViewsMessage}
 use Rattle.dns_message.proofs.PartLaws.{whole_of_parts}
 
@@ -52,7 +48,8 @@ by_parts (Some rr) = go (eqb rr.rtype tsig_type) refl
 
     go : (b : Bool) → eqb rr.rtype tsig_type ≡ b
         → cond b (option_map (signature_with rr) (tsig_from_values rr.rdata)) None
-        ≡ with_start (option_map unplaced_record (cond b (Some rr) None)) (option_map (λ x. x.start) (cond b (Some rr) None))
+        ≡ with_start (option_map unplaced_record (cond b (Some rr) None))
+        (option_map (λ x. x.start) (cond b (Some rr) None))
     go true is = rw is (same_start (tsig_from_values rr.rdata))
     go false is = refl
 

@@ -48,7 +48,8 @@ held_signature (Some rr) (Some start) = Some (record { start = start; name = rr.
 held_signature (Some rr) None = None
 held_signature None start = None
 
--- a view shows the header that counts the lists of a message, its end, and its signature with the place where that starts
+-- a view shows the header that counts the lists of a message, its end, and its signature with the place where that
+-- starts
 pub record ShowsMessage (view : MessageView) (message : Message) (places : Places) : Type 0 where
   pub header : header_view (view_header view) ≡ (whole (message_parts message)).header
   pub end : view_end view ≡ places.end

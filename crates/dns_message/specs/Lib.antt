@@ -1,6 +1,7 @@
 pub mod Views
 pub mod Parts
 pub mod OwnedMessages
+pub mod MessageReading
 pub mod MessageWriting
 pub mod RecordSets
 pub mod Responses

@@ -1,5 +1,6 @@
 -- What contracts see of records and messages that are held in memory (RFC 1035 4.1).
-use Rattle.std.specs.Prelude.{◌≡◌, ℕ, List, [], ◌∷◌, ◌++◌, length, map, Bool, Option, Some, None, option_map, option_and_then}
+use Rattle.std.specs.Prelude.{◌≡◌, ℕ, List, [], ◌∷◌, ◌++◌, length, map, Bool, Option, Some, None, option_map}
+use Rattle.std.specs.Prelude.{option_and_then}
 use Rattle.std.specs.Prelude.{is_some, nat_eq, nat_le, ◌/◌, ◌%◌, if◌then◌else◌}
 use Rattle.dns_grammar.specs.RecordData.{tsig_type}
 use Rattle.dns_grammar.specs.Messages as grammar

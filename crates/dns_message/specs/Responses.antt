@@ -1,5 +1,5 @@
 -- What reading a response answers.
-use Rattle.std.specs.Prelude.{◌≡◌, ◌≢◌, ◌⊎◌, true, ℕ, List, Result, Ok, Err, nat_le, if◌then◌else◌, IfOk, IsOkAnd}
+use Rattle.std.specs.Prelude.{◌≡◌, ◌≢◌, ◌⊎◌, true, ℕ, List, Result, Ok, Err, if◌then◌else◌, IfOk, IsOkAnd}
 use Rattle.dns_wire.specs.declared.error.DecodeError.{DecodeError}
 use Rattle.dns_wire.specs.declared.error.DecodeError.TheVariants as faults
 use Rattle.dns_wire.specs.Reading.{GivesUnless}
@@ -29,8 +29,8 @@ abbrev pub response_of : Result (grammar.Message × ℕ) DecodeError → Result 
 response_of (Err fault) = Err (Decode fault)
 response_of (Ok x) = if has_qr x.0.header.flags then Ok (parts_of x.0) else Err NotAResponse
 
--- The answer of a call that reads octets as a response: its parts and its octets, exactly where a message stands in them
--- whose bit QR is set; or why not. Want of memory may come in place of any answer.
+-- The answer of a call that reads octets as a response: its parts and its octets, exactly where a message stands in
+-- them whose bit QR is set; or why not. Want of memory may come in place of any answer.
 pub record ReadsResponse (m : List ℕ) (result : Result DnsResponse ResponseError) : Type 0 where
   -- what the reading function gives
   pub exact : GivesUnless OutOfMemory response_parts result (response_of (message_at rdata_table m))

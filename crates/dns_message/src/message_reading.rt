@@ -5,8 +5,8 @@ ghost use Rattle.dns_names.specs.Jumps.{AreJumps};
 ghost use Rattle.dns_grammar.specs.Messages.{record_at};
 ghost use Rattle.dns_rdata.specs.RDataTable.{rdata_table};
 ghost use Rattle.dns_message.specs.OwnedMessages.{held, standing, standing_parts, IsReadMessage, ReadsMessage};
-ghost use Rattle.dns_message.specs.OwnedMessages.{parts_at, unplaced_at, last_view, IsReadLast, ahead_view};
-ghost use Rattle.dns_message.specs.OwnedMessages.{parts_ahead_at};
+ghost use Rattle.dns_message.specs.MessageReading.{parts_at, unplaced_at, last_view, IsReadLast, ahead_view};
+ghost use Rattle.dns_message.specs.MessageReading.{parts_ahead_at};
 ghost use Rattle.dns_message.specs.Parts.{message_parts};
 
 use crate::header::Header;
@@ -71,7 +71,7 @@ fn read_last(
 
 /// Reads a message but its last additional record, and says how many additional records there are, and where the last
 /// starts.
-#[tactic(auto, unfolding(crate::specs::OwnedMessages::parts_ahead_at))]
+#[tactic(auto, unfolding(crate::specs::MessageReading::parts_ahead_at))]
 fn read_ahead(
     alloc: Global,
     message: &[u8],

@@ -76,7 +76,8 @@ impl Record<RData> {
 impl BinEncodable for Record<RData> {
     ghost written = { written_record };
 
-    /// Writes the record (RFC 1035 4.1.3). Its owner heeds the encoder's name encoding, and its data the canonical form.
+    /// Writes the record (RFC 1035 4.1.3). Its owner heeds the encoder's name encoding, and its data the canonical
+    /// form.
     ///
     /// # Errors
     ///

@@ -5,7 +5,8 @@ ghost use Rattle.dns_wire.specs.Reading.{octets, place, GivesUnless, ReadsUnless
 ghost use Rattle.dns_names.specs.Jumps.{AreJumps};
 ghost use Rattle.dns_grammar.specs.Messages.{queries_at, record_at};
 ghost use Rattle.dns_rdata.specs.RDataTable.{rdata_table};
-ghost use Rattle.dns_message.specs.OwnedMessages.{unplaced_at, others_at, IsReadRecord};
+ghost use Rattle.dns_message.specs.MessageReading.{unplaced_at, others_at};
+ghost use Rattle.dns_message.specs.OwnedMessages.{IsReadRecord};
 ghost use Rattle.dns_message.specs.Parts.{record_view};
 ghost use Rattle.dns_message.specs.Views.{query_view};
 

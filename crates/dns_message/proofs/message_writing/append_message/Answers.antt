@@ -1,4 +1,4 @@
-use Rattle.std.proofs.Common.{Ok, Some, None, sym, subst, refl}
+use Rattle.std.proofs.Common.{Ok}
 use Rattle.std.proofs.lemmas.Result.{err_from_is_err_and}
 use Rattle.dns_message.proofs.GrowingSteps.{writes_grow, nothing_grows, behind_none, behind_more, behind_fails}
 use Rattle.dns_message.proofs.MessageWritingSteps.{header_written, queries_written, records_written, signature_written}
@@ -17,9 +17,11 @@ returns-in_err-append_each-2 c =
     let b2 = behind_more old c.emit_header.new.encoder c.append_each.new.encoder c.in_ok-append_each.field-0 whole
     (queries_written message.queries.items) (answers_on message) b1
     (rw c.as_slice.ensures.value at c.in_ok-append_each.ensures) in
-    let p = err_from_is_err_and c.from_residual-in_err-append_each-2.result c.from_residual-in_err-append_each-2.ensures.1 in
+    let p = err_from_is_err_and c.from_residual-in_err-append_each-2.result
+    c.from_residual-in_err-append_each-2.ensures.1 in
     rw (p.1, p.2)
-    (behind_fails old c.append_each.new.encoder c.append_each-2.new.encoder c.in_err-append_each-2.field-0.0 whole (records_written message.answers.items) (authorities_on message) b2
+    (behind_fails old c.append_each.new.encoder c.append_each-2.new.encoder c.in_err-append_each-2.field-0.0 whole
+    (records_written message.answers.items) (authorities_on message) b2
     (rw c.as_slice-2.ensures.value at c.in_err-append_each-2.ensures))
 
 pub returns-in_err-append_each-3 : goal.returns-in_err-append_each-3
@@ -37,9 +39,11 @@ returns-in_err-append_each-3 c =
     let b3 = behind_more old c.append_each.new.encoder c.append_each-2.new.encoder c.in_ok-append_each-2.field-0 whole
     (records_written message.answers.items) (authorities_on message) b2
     (rw c.as_slice-2.ensures.value at c.in_ok-append_each-2.ensures) in
-    let p = err_from_is_err_and c.from_residual-in_err-append_each-3.result c.from_residual-in_err-append_each-3.ensures.1 in
+    let p = err_from_is_err_and c.from_residual-in_err-append_each-3.result
+    c.from_residual-in_err-append_each-3.ensures.1 in
     rw (p.1, p.2)
-    (behind_fails old c.append_each-2.new.encoder c.append_each-3.new.encoder c.in_err-append_each-3.field-0.0 whole (records_written message.authorities.items) (additionals_on message) b3
+    (behind_fails old c.append_each-2.new.encoder c.append_each-3.new.encoder c.in_err-append_each-3.field-0.0 whole
+    (records_written message.authorities.items) (additionals_on message) b3
     (rw c.as_slice-3.ensures.value at c.in_err-append_each-3.ensures))
 
 pub returns-in_err-append_each-4 : goal.returns-in_err-append_each-4
@@ -60,9 +64,11 @@ returns-in_err-append_each-4 c =
     let b4 = behind_more old c.append_each-2.new.encoder c.append_each-3.new.encoder c.in_ok-append_each-3.field-0 whole
     (records_written message.authorities.items) (additionals_on message) b3
     (rw c.as_slice-3.ensures.value at c.in_ok-append_each-3.ensures) in
-    let p = err_from_is_err_and c.from_residual-in_err-append_each-4.result c.from_residual-in_err-append_each-4.ensures.1 in
+    let p = err_from_is_err_and c.from_residual-in_err-append_each-4.result
+    c.from_residual-in_err-append_each-4.ensures.1 in
     rw (p.1, p.2)
-    (behind_fails old c.append_each-3.new.encoder c.append_each-4.new.encoder c.in_err-append_each-4.field-0.0 whole (records_written message.additionals.items) (signature_written message) b4
+    (behind_fails old c.append_each-3.new.encoder c.append_each-4.new.encoder c.in_err-append_each-4.field-0.0 whole
+    (records_written message.additionals.items) (signature_written message) b4
     (rw c.as_slice-4.ensures.value at c.in_err-append_each-4.ensures))
 
 pub returns-in-Some : goal.returns-in-Some

@@ -1,4 +1,4 @@
-use Rattle.std.proofs.Common.{◌≡◌, ℕ, ◌⊎◌, inl, inr, true, false, List, length, sym, subst, arith, ◌∙◌, map}
+use Rattle.std.proofs.Common.{◌≡◌, ◌⊎◌, inl, inr, true, false, sym, subst, arith, ◌∙◌, map}
 use Rattle.std.specs.Prelude.{is_some}
 use Rattle.std.proofs.lemmas.List.{length-map}
 use Rattle.dns_wire.specs.Writing.{Writes}
@@ -18,13 +18,18 @@ returns c =
       | else-is_some w ↦ inr (sym c.is_some.ensures ∙ w.if-is_some.false, w.signatures-is)
     ] in
     let queries = count_is (map query_view message.queries.items) c.len.result c.in_ok-questions.questions
-    (omega (arith, c.len.ensures, message.queries.ok, length-map message.queries.items query_view)) c.in_ok-questions.ensures in
+    (omega (arith, c.len.ensures, message.queries.ok, length-map message.queries.items query_view))
+    c.in_ok-questions.ensures in
     let answers = count_is (map record_view message.answers.items) c.len-2.result c.in_ok-answers.answers
-    (omega (arith, c.len-2.ensures, message.answers.ok, length-map message.answers.items record_view)) c.in_ok-answers.ensures in
-    let authorities = count_is (map record_view message.authorities.items) c.len-3.result c.in_ok-authorities.authorities
-    (omega (arith, c.len-3.ensures, message.authorities.ok, length-map message.authorities.items record_view)) c.in_ok-authorities.ensures in
+    (omega (arith, c.len-2.ensures, message.answers.ok, length-map message.answers.items record_view))
+    c.in_ok-answers.ensures in
+    let authorities = count_is (map record_view message.authorities.items) c.len-3.result
+    c.in_ok-authorities.authorities
+    (omega (arith, c.len-3.ensures, message.authorities.ok, length-map message.authorities.items record_view))
+    c.in_ok-authorities.ensures in
     let additionals = last_count_is message.additionals.items message.signature c.if-is_some.signatures
     c.saturating_add.result c.in_ok-additionals.additionals signatures
-    (omega (arith, c.saturating_add.ensures, c.len-4.ensures, message.additionals.ok)) c.in_ok-additionals.ensures in
+    (omega (arith, c.saturating_add.ensures, c.len-4.ensures, message.additionals.ok))
+    c.in_ok-additionals.ensures in
     subst (λ g. Writes c.emit_fields.result c.args.encoder.now c.emit_fields.new.encoder g)
     (sym (header_is (message_parts message) _ _ _ _ queries answers authorities additionals)) c.emit_fields.ensures

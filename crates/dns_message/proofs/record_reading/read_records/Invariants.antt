@@ -2,7 +2,8 @@ use Rattle.std.proofs.Common.{◌≡◌, ◌-◌, map}
 use Rattle.std.specs.List.{AllByRecursion}
 use Rattle.dns_names.specs.Jumps.{AreJumps}
 use Rattle.dns_wire.specs.Reading.{octets, place}
-use Rattle.dns_message.specs.OwnedMessages.{others_at, IsReadRecord}
+use Rattle.dns_message.specs.MessageReading.{others_at}
+use Rattle.dns_message.specs.OwnedMessages.{IsReadRecord}
 use Rattle.dns_message.specs.Parts.{record_view}
 use Rattle.dns_message.proofs.ValuesRead.{after}
 use Rattle.dns_message.proofs.record_reading.read_records.Given as goal
