@@ -44,7 +44,8 @@ behind_unit : (u c : ℕ) (rest : List ℕ) → 0 < u → u ≤ length (c ∷ re
 behind_unit zero c rest some within = absurd (omega arith)
 behind_unit (suc n) c rest some within =
     let less = counted n rest (omega arith) in
-    let same : word_len_behind (suc n - 1) rest ≡ word_len_behind n rest = ap (λ k. word_len_behind k rest) (omega arith) in
+    let same : word_len_behind (suc n - 1) rest ≡ word_len_behind n rest =
+    ap (λ k. word_len_behind k rest) (omega arith) in
     omega arith
 
 choose : (u c : ℕ) (rest : List ℕ) → 0 < u → u ≡ unit_len (c ∷ rest)

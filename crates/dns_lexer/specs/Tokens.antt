@@ -1,5 +1,6 @@
 -- The tokens of anchor text, whose words, comments and lines are those of zone files (RFC 1035 5.1).
-use Rattle.std.specs.Prelude.{◌≡◌, ℕ, zero, suc, ◌+◌, ◌-◌, List, [], ◌∷◌, length, take, Bool, false, ◌&&◌, not, nat_eq, nat_lt}
+use Rattle.std.specs.Prelude.{◌≡◌, ℕ, zero, suc, ◌+◌, ◌-◌, List, [], ◌∷◌, length, take, Bool, false, ◌&&◌, not}
+use Rattle.std.specs.Prelude.{nat_eq, nat_lt}
 use Rattle.std.specs.Prelude.{if◌then◌else◌, codes, slice_index, Option, Some, None, Result, Ok, Err}
 use Rattle.std.specs.Char.{is_ascii_graphic}
 use Rattle.std.specs.List.{list_any, position_or_len}
@@ -91,8 +92,8 @@ begins p (c ∷ rest) = p c
 abbrev pub line_start : List ℕ → List Item → List Item
 line_start text behind = if begins is_blank text then mark tokens.Blank ∷ behind else behind
 
--- How many octets between tokens a text begins with: a blank; a carriage return before a line feed; a comment, up to the
--- line feed behind it or the text's end.
+-- How many octets between tokens a text begins with: a blank; a carriage return before a line feed; a comment, up to
+-- the line feed behind it or the text's end.
 abbrev pub gap_len : List ℕ → ℕ
 gap_len [] = 0
 gap_len (c ∷ rest) =

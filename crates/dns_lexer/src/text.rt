@@ -1,6 +1,6 @@
 //! Words and gaps at the front of a text.
-ghost use Rattle.std.specs.Prelude.{◌≡◌, ◌+◌, ◌<◌, ◌≤◌, ◌-◌, [], ◌∷◌, length, drop, take, position, IfSome, MatchOption, slice_index};
-ghost use Rattle.std.specs.Prelude.{false};
+ghost use Rattle.std.specs.Prelude.{◌≡◌, ◌+◌, ◌<◌, ◌≤◌, ◌-◌, [], ◌∷◌, length, drop, take, position};
+ghost use Rattle.std.specs.Prelude.{MatchOption, slice_index, false};
 ghost use Rattle.std.specs.Str.{IsCharBoundary, chars};
 ghost use Rattle.dns_lexer.specs.Tokens as specs;
 ghost use Rattle.dns_lexer.specs.Tokens.{items_behind, begins};

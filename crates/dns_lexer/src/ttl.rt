@@ -8,8 +8,8 @@ use dns_text::number_below;
 /// The first number of seconds above those of a time to live.
 const LIMIT: u64 = 1 << 32;
 
-/// The seconds of a time to live: groups of decimal digits and a unit `s`, `m`, `h`, `d` or `w` in either case; the last
-/// unit may be missing, for seconds. `None` at a text of another form, and where the sum is above 4,294,967,295.
+/// The seconds of a time to live: groups of decimal digits and a unit `s`, `m`, `h`, `d` or `w` in either case; the
+/// last unit may be missing, for seconds. `None` at a text of another form, and where the sum is above 4,294,967,295.
 pub fn parse_ttl(text: &str) -> Option<u32>
     ensures { result ≡ specs.ttl_of text.now }
 {

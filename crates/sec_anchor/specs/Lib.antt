@@ -1,0 +1,4 @@
+pub mod Anchors
+pub mod AnchorTokens
+pub mod Entries
+pub mod Lines
