@@ -1,52 +1,174 @@
--- Answers and requests by the message that stands in their octets.
-use Rattle.std.proofs.Common.{◌≡◌, ℕ, Bool, true, false, List, Result, Option, Some, None, Ok, Err, refl, ap, ◌∙◌}
-use Rattle.std.proofs.Common.{if◌then◌else◌}
-use Rattle.std.specs.Option.{option_and_then}
+-- The verdict on octets, by the message that stands in them.
+use Rattle.std.proofs.Common.{◌≡◌, ℕ, ◌&&◌, ◌≤◌, ◌<◌, ◌^◌, not, Bool, true, false, cond, nat_lt, nat_le, List, length, Result}
+use Rattle.std.proofs.Common.{Option, Some, None, Ok, Err, refl, sym, ap, ◌∙◌, arith, if◌then◌else◌}
+use Rattle.std.specs.Str.{bytes_eq}
+use Rattle.std.proofs.lemmas.Bool.{le-leb, lt-ltb, le-ltb, leb-true, ltb-true}
 use Rattle.dns_wire.specs.declared.error.DecodeError.{DecodeError}
-use Rattle.dns_rdata.specs.RDataTable.{rdata_table}
-use Rattle.dns_grammar.specs.Messages.{Header, Message, message_at}
+use Rattle.dns_wire.specs.Reading.{◌>>=◌}
+use Rattle.dns_names.specs.NameLaws.{same_decides}
+use Rattle.dns_names.specs.Names.{wire}
+use Rattle.dns_grammar.specs.Messages.{Header, Message, Signature, HasTsig, signature_of, message_at}
 use Rattle.dns_grammar.proofs.MessageLaws.{message_stands, message_read}
-use Rattle.sec_tsig.specs.declared.verifier.FirstError.TheVariants as errors
-use Rattle.sec_tsig.specs.Verdict.{Signer, Chain, verdict_on}
-use Rattle.sec_tsig.specs.FirstMessages.{judged_answer, header_of_request, is_request, signed_with}
-use Rattle.sec_tsig.specs.FirstMessages.{first_answer_of}
-use Rattle.sec_tsig.specs.Laws.{IsNoMessage, AnswerIsByMessage, NoMessageIsDecode, RequestIsByMessage}
-use Rattle.sec_tsig.specs.Laws.{NoMessageIsNoRequest}
+use Rattle.dns_rdata.specs.RDataTable.{rdata_table}
+use Rattle.sec_digest.specs.declared.hmac.HmacHash.{HmacHash}
+use Rattle.sec_digest.specs.Hmac.{hmac, mac_len}
+use Rattle.sec_sigdata.proofs.TsigNames.{one_wire}
+use Rattle.std.proofs.lemmas.Slice.Eq.{bytes_eq-Decides}
+use Rattle.sec_tsig.specs.declared.verify_error.VerifyError.{VerifyError}
+use Rattle.sec_tsig.specs.declared.verify_error.VerifyError.TheVariants as causes
+use Rattle.sec_tsig.specs.Verdict.{Chain, advanced, checked_mac, expected_mac, has_signers_key, is_in_time, is_response}
+use Rattle.sec_tsig.specs.Verdict.{judged, signature_verdict, verdict, with_signature}
+use Rattle.sec_tsig.specs.Laws.{IsNoMessage, VerdictIsByMessage, NoMessageIsDecode, IsValidResponse, ValidIsAccepted}
+use Rattle.sec_tsig.specs.Laws.{AcceptedIsValid}
+use Rattle.sec_tsig.specs.Signers.{algorithm_name}
 
-pub answer_by_message : AnswerIsByMessage
-answer_by_message chain octets message e stands =
-    let is = message_read rdata_table octets message e stands in
-    ap (first_answer_of chain octets) is ∙ ap (λ read. judged_answer message (verdict_on chain octets read)) is
-
-undecoded : (chain : Chain) (octets : List ℕ) (read : Result (Message × ℕ) DecodeError)
-    → ((x : Message × ℕ) → read ≡ Ok x → ⊥) → first_answer_of chain octets read ≡ Err errors.Decode
-undecoded chain octets (Ok x) none = absurd (none x refl)
-undecoded chain octets (Err e) none = refl
+pub verdict_by_message : VerdictIsByMessage
+verdict_by_message chain octets message e stands =
+    ap (judged (signature_verdict chain octets)) (message_read rdata_table octets message e stands)
 
 -- no message stands, so that reading gives none
 unread : (octets : List ℕ) → IsNoMessage octets → (x : Message × ℕ) → message_at rdata_table octets ≡ Ok x → ⊥
 unread octets none x is = none x.0 x.1 (message_stands rdata_table octets x.0 x.1 is)
 
+undecoded : {X : Type 0} (found : Header → Signature → Result X VerifyError) (read : Result (Message × ℕ) DecodeError)
+    → ((x : Message × ℕ) → read ≡ Ok x → ⊥) → judged found read ≡ Err causes.Decode
+undecoded found (Ok x) none = absurd (none x refl)
+undecoded found (Err e) none = refl
+
 pub no_message_is_decode : NoMessageIsDecode
-no_message_is_decode chain octets none = undecoded chain octets (message_at rdata_table octets) (unread octets none)
+no_message_is_decode chain octets none =
+    undecoded (signature_verdict chain octets) (message_at rdata_table octets) (unread octets none)
 
-chosen : {A : Type 0} (test : Bool) (header : Header) (sign : Header → Option A)
-    → option_and_then sign (if test then Some header else None) ≡ (if test then sign header else None)
-chosen true header sign = refl
-chosen false header sign = refl
+-- ---- valid responses
 
-pub request_by_message : RequestIsByMessage
-request_by_message signer time octets message e stands =
-    ap (λ read. option_and_then (signed_with signer time octets) (header_of_request octets read))
-    (message_read rdata_table octets message e stands)
-    ∙ chosen (is_request octets (message, e)) message.header (signed_with signer time octets)
+-- the verdict where no cause holds
+pub passes : (chain : Chain) (m : List ℕ) (header : Header) (s : Signature)
+    → has_signers_key chain.signer s ≡ true
+    → nat_lt (length s.tsig.mac) (mac_len chain.signer.algorithm) ≡ false
+    → bytes_eq s.tsig.mac (expected_mac chain.signer (Some chain.mac) chain.first m header s) ≡ true
+    → is_in_time chain s ≡ true → is_response header ≡ true
+    → signature_verdict chain m header s ≡ Ok (advanced chain s.tsig.mac s.tsig.time)
+unfolding signature_verdict
+passes chain m header s key long mac time response = rw (key, long, mac, time, response) refl
 
-unsigned : (signer : Signer) (time : ℕ) (octets : List ℕ) (read : Result (Message × ℕ) DecodeError)
-    → ((x : Message × ℕ) → read ≡ Ok x → ⊥)
-    → option_and_then (signed_with signer time octets) (header_of_request octets read) ≡ None
-unsigned signer time octets (Ok x) none = absurd (none x refl)
-unsigned signer time octets (Err e) none = refl
+both : (a b : Bool) → a ≡ true → b ≡ true → a && b ≡ true
+both a b p q = rw (p, q) refl
 
-pub no_message_is_no_request : NoMessageIsNoRequest
-no_message_is_no_request signer time octets none = unsigned signer time octets (message_at rdata_table octets)
-    (unread octets none)
+-- a MAC has the length of its hash function's output
+abbrev pub HmacHasLength : Type 0
+HmacHasLength = (hash : HmacHash) (key message : List ℕ) → length (hmac hash key message) ≡ mac_len hash
+
+pub valid_is_accepted : HmacHasLength → ValidIsAccepted
+valid_is_accepted length-hmac chain m s v =
+    let header = v.message.header in
+    let expected = expected_mac chain.signer (Some chain.mac) chain.first m header s in
+    let key : has_signers_key chain.signer s ≡ true = both _ _ ((same_decides chain.signer.name s.name).1 v.owner)
+    ((bytes_eq-Decides (wire (algorithm_name chain.signer.algorithm)) (wire s.tsig.algorithm)).1
+    (ap wire (sym v.algorithm))) in
+    let len : length s.tsig.mac ≡ mac_len chain.signer.algorithm = ap (λ (l : List ℕ). length l) v.mac
+    ∙ length-hmac chain.signer.algorithm chain.signer.key _ in
+    let long : nat_lt (length s.tsig.mac) (mac_len chain.signer.algorithm) ≡ false = le-ltb _ _ (omega (arith, len)) in
+    let right : bytes_eq s.tsig.mac expected ≡ true = (bytes_eq-Decides s.tsig.mac expected).1 v.mac in
+    let time : is_in_time chain s ≡ true = both _ _ (both _ _ (le-leb _ _ v.in_order) (le-leb _ _ v.from_start))
+    (lt-ltb _ _ v.before_end) in
+    verdict_by_message chain m v.message v.end v.has.stands
+    ∙ ap (with_signature (signature_verdict chain m) header) v.has.is_last
+    ∙ passes chain m header s key long right time (le-leb _ _ v.response)
+
+-- ---- accepted octets
+
+-- the verdict as tests
+abbrev sieve : Bool → Bool → Bool → Bool → Bool → List ℕ → (List ℕ → Chain) → Result Chain VerifyError
+sieve key short right time response mac behind =
+    (if not key then Err causes.TsigWrongKey
+    else if short then Err causes.TruncatedMac
+    else if not right then Err causes.HmacInvalid
+    else Ok mac) >>= λ mac.
+    if not time then Err causes.Outdated
+    else if not response then Err causes.NotAResponse
+    else Ok (behind mac)
+
+record Sieved (a b d t q : Bool) (x : List ℕ) (f : List ℕ → Chain) (z : Chain) : Type 0 where
+  pub key : a ≡ true
+  pub right : d ≡ true
+  pub time : t ≡ true
+  pub response : q ≡ true
+  pub is_behind : z ≡ f x
+
+sieved : (key short right time response : Bool) (mac : List ℕ) (behind : List ℕ → Chain) (next : Chain)
+    → sieve key short right time response mac behind ≡ Ok next → Sieved key short right time response mac behind next
+sieved true false true true true mac behind next e = record {
+  key = refl;
+  right = refl;
+  time = refl;
+  response = refl;
+  is_behind = cc;
+}
+sieved false short right time response mac behind next e = absurd cc
+sieved true true right time response mac behind next e = absurd cc
+sieved true false false time response mac behind next e = absurd cc
+sieved true false true false response mac behind next e = absurd cc
+sieved true false true true false mac behind next e = absurd cc
+
+-- the verdict on a message with this TSIG, where it is a chain
+verdict_sieved : (chain next : Chain) (m : List ℕ) (header : Header) (s : Signature)
+    → signature_verdict chain m header s ≡ Ok next
+    → Sieved (has_signers_key chain.signer s) (nat_lt (length s.tsig.mac) (mac_len chain.signer.algorithm))
+    (bytes_eq s.tsig.mac (expected_mac chain.signer (Some chain.mac) chain.first m header s))
+    (is_in_time chain s) (is_response header) s.tsig.mac (λ mac. advanced chain mac s.tsig.time) next
+unfolding signature_verdict
+verdict_sieved chain next m header s e =
+    sieved (has_signers_key chain.signer s) (nat_lt (length s.tsig.mac) (mac_len chain.signer.algorithm))
+    (bytes_eq s.tsig.mac (expected_mac chain.signer (Some chain.mac) chain.first m header s))
+    (is_in_time chain s) (is_response header) s.tsig.mac (λ mac. advanced chain mac s.tsig.time) next e
+
+left_true : (a b : Bool) → a && b ≡ true → a ≡ true
+left_true true b e = refl
+left_true false b e = e
+
+right_true : (a b : Bool) → a && b ≡ true → b ≡ true
+right_true true b e = e
+right_true false b e = absurd cc
+
+valid_of : (chain next : Chain) (m : List ℕ) (message : Message) (e : ℕ) (s : Signature)
+    → HasTsig rdata_table m message s e → signature_verdict chain m message.header s ≡ Ok next
+    → IsValidResponse chain m s × (next ≡ advanced chain s.tsig.mac s.tsig.time)
+valid_of chain next m message e s has is =
+    let v = verdict_sieved chain next m message.header s is in
+    let expected = expected_mac chain.signer (Some chain.mac) chain.first m message.header s in
+    let early = left_true _ _ v.time in (
+      record {
+        message = message;
+        end = e;
+        has = has;
+        owner = (same_decides chain.signer.name s.name).0 (left_true _ _ v.key);
+        algorithm = one_wire s.tsig.algorithm (algorithm_name chain.signer.algorithm)
+            (sym ((bytes_eq-Decides (wire (algorithm_name chain.signer.algorithm)) (wire s.tsig.algorithm)).0
+            (right_true _ _ v.key)));
+        mac = (bytes_eq-Decides s.tsig.mac expected).0 v.right;
+        in_order = leb-true _ _ (left_true _ _ early);
+        from_start = leb-true _ _ (right_true _ _ early);
+        before_end = ltb-true _ _ (right_true _ _ v.time);
+        response = leb-true _ _ v.response;
+      },
+      v.is_behind,
+    )
+
+pub accepted_is_valid : AcceptedIsValid
+accepted_is_valid chain next m is = go (message_at rdata_table m) refl is
+  where
+    with_last : (x : Message × ℕ) → message_at rdata_table m ≡ Ok x → (last : Option Signature)
+        → signature_of x.0 ≡ last
+        → with_signature (signature_verdict chain m) x.0.header last ≡ Ok next
+        → (s : Signature) × IsValidResponse chain m s × (next ≡ advanced chain s.tsig.mac s.tsig.time)
+    with_last x read None last is = absurd cc
+    with_last x read (Some s) last is =
+        let v = valid_of chain next m x.0 x.1 s
+        (record { stands = message_stands rdata_table m x.0 x.1 read; is_last = last }) is in
+        (s, v.0, v.1)
+
+    go : (read : Result (Message × ℕ) DecodeError) → message_at rdata_table m ≡ read
+        → judged (signature_verdict chain m) read ≡ Ok next
+        → (s : Signature) × IsValidResponse chain m s × (next ≡ advanced chain s.tsig.mac s.tsig.time)
+    go (Err fault) read is = absurd cc
+    go (Ok x) read is = with_last x read (signature_of x.0) refl is

@@ -1,7 +1,11 @@
-pub mod Views
-pub mod RecordSets
-pub mod RecordWalks
+pub mod InputBuffers
 pub mod Tsig
+pub mod Signers
 pub mod Verdict
-pub mod FirstMessages
+pub mod Received
+pub mod Views
+pub mod MessageSigning
+pub mod Requests
+pub mod Responses
+pub mod Replies
 pub mod Laws

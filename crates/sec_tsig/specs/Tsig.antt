@@ -1,17 +1,22 @@
 -- What a transaction signature covers, and the record that carries it (RFC 8945 4.2, 4.3).
-use Rattle.std.specs.Prelude.{ℕ, ◌+◌, ◌-◌, List, [], ◌++◌, length, slice_range, Bool, false, Option, Some, None, Result}
-use Rattle.std.specs.Prelude.{Ok, Err, nat_lt, ◌==◌, if◌then◌else◌}
+use Rattle.std.specs.Prelude.{◌≡◌, ℕ, ◌+◌, ◌-◌, ◌^◌, ◌<◌, List, [], ◌++◌, length, slice_range, Bool, true, false}
+use Rattle.std.specs.Prelude.{Option, Some, None, Result, Ok, Err, nat_lt, ◌==◌, if◌then◌else◌}
+use Rattle.std.specs.Int.{w16, from_be_bytes}
 use Rattle.dns_wire.specs.declared.encoder.NameEncoding.TheVariants.{Uncompressed}
 use Rattle.dns_wire.specs.declared.error.EmitError.{EmitError}
-use Rattle.dns_wire.specs.declared.error.EmitError.TheVariants.{CountTooLarge, MessageTooLong}
+use Rattle.dns_wire.specs.declared.error.EmitError.TheVariants.{CountTooLarge, MacTooLong, MessageTooLong}
+use Rattle.dns_wire.specs.declared.error.EmitError.TheVariants.{OtherTooLong, TimeTooLarge}
 use Rattle.dns_wire.specs.Octets.{two_octets}
 use Rattle.dns_wire.specs.Reading.{◌>>=◌}
-use Rattle.dns_wire.specs.Writing.{Output}
 use Rattle.dns_grammar.specs.RecordData.{tsig_type}
-use Rattle.dns_rdata.specs.RDataTable.{rdata_table}
-use Rattle.dns_grammar.specs.Messages.{ResourceRecord, TsigData, tsig_values}
+use Rattle.dns_grammar.specs.Messages.{Header, ResourceRecord, Signature, TsigData, tsig_values}
 use Rattle.dns_grammar.specs.MessageWriting.{record_octets}
-use Rattle.sec_sigdata.specs.TsigRecords.{any_class, tsig_timers, tsig_variables}
+use Rattle.sec_codes.specs.declared.proof.Proof.{Proof}
+use Rattle.sec_codes.specs.declared.proof.Proof.TheVariants.{Indeterminate}
+use Rattle.sec_sigdata.specs.declared.tsig.TSIG.{TSIG}
+use Rattle.sec_sigdata.specs.TsigRecords.{TsigFields, any_class, fields_data, tsig_fields, tsig_timers, tsig_variables}
+use Rattle.dns_rdata.specs.RDataTable.{rdata_table}
+use Rattle.dns_message.specs.declared.record.Record.{Record}
 
 -- ---- the octets under a MAC
 
@@ -31,36 +36,83 @@ message_without_tsig oid additionals m start =
 abbrev pub covered_fields : Bool → List (List ℕ) → TsigData → List ℕ
 covered_fields first owner tsig = if first then tsig_variables owner tsig else tsig_timers tsig
 
--- the octets under the MAC of a message that was received, whose TSIG record starts at `start`
-unfoldable pub mac_input : Option (List ℕ) → Bool → ℕ → List ℕ → ℕ → List (List ℕ) → TsigData → List ℕ
-mac_input previous first additionals m start owner tsig =
-    prior_mac previous ++ message_without_tsig tsig.oid additionals m start ++ covered_fields first owner tsig
+-- The octets under a MAC: the MAC of the message before, the message without its TSIG record, and what is covered of
+-- that record (RFC 8945 4.3).
+unfoldable pub mac_input : Option (List ℕ) → Bool → List ℕ → List (List ℕ) → TsigData → List ℕ
+mac_input previous first message owner tsig = prior_mac previous ++ message ++ covered_fields first owner tsig
 
--- the octets under the MAC of a message that is to be signed
-unfoldable pub signing_input : Option (List ℕ) → Bool → List ℕ → List (List ℕ) → TsigData → List ℕ
-signing_input previous first octets owner tsig = prior_mac previous ++ octets ++ covered_fields first owner tsig
+-- the same of a message that was received with this header and this TSIG record
+abbrev pub received_input : Option (List ℕ) → Bool → List ℕ → Header → Signature → List ℕ
+received_input previous first m header s =
+    mac_input previous first (message_without_tsig s.tsig.oid header.additionals m s.start) s.name s.tsig
+
+-- a MAC that its length of two octets can count
+abbrev pub IsCounted : List ℕ → Type 0
+IsCounted mac = length mac < 2 ^ 16
+
+-- octets, unless a time or other data have no room in their fields
+abbrev pub if_fields_fit : TsigData → List ℕ → Result (List ℕ) EmitError
+if_fields_fit tsig octets =
+    if nat_lt tsig.time (2 ^ 48) then (if nat_lt (length tsig.other) (2 ^ 16) then Ok octets else Err OtherTooLong)
+    else Err TimeTooLarge
+
+-- The octets under the MAC of a first message, or the first cause why there are none: a MAC before it that is too long,
+-- a time or other data that have no room in their fields.
+abbrev pub written_input : Option (List ℕ) → List ℕ → List (List ℕ) → TsigData → Result (List ℕ) EmitError
+written_input None octets owner tsig = if_fields_fit tsig (mac_input None true octets owner tsig)
+written_input (Some mac) octets owner tsig =
+    if nat_lt (length mac) (2 ^ 16) then if_fields_fit tsig (mac_input (Some mac) true octets owner tsig) else Err MacTooLong
+
+-- the same of a message that is written first
+abbrev pub message_input : Result (List ℕ) EmitError → List (List ℕ) → TsigData → Result (List ℕ) EmitError
+message_input written owner tsig = written >>= λ octets. written_input None octets owner tsig
 
 -- ---- the record
 
--- a TSIG record: class ANY and TTL 0 (RFC 8945 4.2)
-abbrev pub tsig_rr : List (List ℕ) → TsigData → ResourceRecord
-tsig_rr owner tsig = record {
+-- what contracts see of a TSIG record that is held in memory
+pub record TsigRecord : Type 0 where
+  pub name : List (List ℕ)
+  pub dns_class : ℕ
+  pub ttl : ℕ
+  pub tsig : TsigFields
+  pub proof : Proof
+
+abbrev pub tsig_record : Record TSIG → TsigRecord
+tsig_record rr = record {
+  name = rr.name;
+  dns_class = rr.dns_class;
+  ttl = rr.ttl;
+  tsig = tsig_fields rr.rdata;
+  proof = rr.proof;
+}
+
+-- the TSIG record of this owner with these data: class ANY and TTL 0 (RFC 8945 4.2)
+abbrev pub made_record : List (List ℕ) → TsigFields → TsigRecord
+made_record owner tsig = record { name = owner; dns_class = any_class; ttl = 0; tsig = tsig; proof = Indeterminate }
+
+-- a TSIG record as a record of a message, the place where it stands aside
+abbrev pub resource_record : TsigRecord → ResourceRecord
+resource_record rr = record {
   start = 0;
-  name = owner;
+  name = rr.name;
   rtype = tsig_type;
-  dns_class = any_class;
-  ttl = 0;
-  rdata = Some (tsig_values tsig);
+  dns_class = rr.dns_class;
+  ttl = rr.ttl;
+  rdata = Some (tsig_values (fields_data rr.tsig));
 }
 
 -- the octets of a TSIG record, or the first cause why there are none
-abbrev pub tsig_record : List (List ℕ) → TsigData → Result (List ℕ) EmitError
-tsig_record owner tsig = record_octets false Uncompressed rdata_table (tsig_rr owner tsig)
+abbrev pub written_record : TsigRecord → Result (List ℕ) EmitError
+written_record rr = record_octets false Uncompressed rdata_table (resource_record rr)
 
--- the octets of a message with a record put behind them and counted among its additionals, of which there were so many
-abbrev pub join : List ℕ → ℕ → List ℕ → List ℕ
-join octets additionals behind =
-    slice_range octets 0 10 ++ two_octets (additionals + 1) ++ slice_range octets 12 (length octets) ++ behind
+-- how many additional records the header of a message counts (RFC 1035 4.1.1)
+abbrev pub additional_count : List ℕ → ℕ
+additional_count octets = from_be_bytes w16 (slice_range octets 10 12)
+
+-- the octets of a message with a record put behind them and counted among its additionals
+abbrev pub join : List ℕ → List ℕ → List ℕ
+join octets behind =
+    slice_range octets 0 10 ++ two_octets (additional_count octets + 1) ++ slice_range octets 12 (length octets) ++ behind
 
 -- octets that are not too many for a message
 abbrev pub sized : List ℕ → Result (List ℕ) EmitError
@@ -69,11 +121,7 @@ sized octets = if nat_lt 65535 (length octets) then Err MessageTooLong else Ok o
 -- A message with a TSIG record put behind it, or the first cause why there is none: CountTooLarge for 65,535
 -- additionals, since there is no number above that for them (RFC 8945 5.1), the cause of the record, and MessageTooLong
 -- for more than 65,535 octets.
-abbrev pub with_tsig : List ℕ → ℕ → List (List ℕ) → TsigData → Result (List ℕ) EmitError
-with_tsig octets additionals owner tsig =
-    if additionals == 65535 then Err CountTooLarge
-    else (tsig_record owner tsig >>= λ behind. sized (join octets additionals behind))
-
--- what was written, and octets behind it
-abbrev pub written_behind : Output → Result (List ℕ) EmitError → Result Output EmitError
-written_behind before written = written >>= λ octets. Ok (record before { octets = before.octets ++ octets })
+abbrev pub with_record : List ℕ → TsigRecord → Result (List ℕ) EmitError
+with_record octets rr =
+    if additional_count octets == 65535 then Err CountTooLarge
+    else (written_record rr >>= λ behind. sized (join octets behind))

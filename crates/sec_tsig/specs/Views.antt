@@ -1,67 +1,49 @@
--- What contracts see of messages in their octets.
-use Rattle.std.specs.Prelude.{ℕ, ◌-◌, ◌≤◌, List, length, Option, Result, Ok, option_map}
-use Rattle.dns_wire.specs.declared.error.DecodeError.{DecodeError}
-use Rattle.dns_wire.specs.Reading.{◌>>=◌}
-use Rattle.dns_names.specs.Skipping.{without_value}
+-- What contracts see of signers and verifiers.
+use Rattle.std.specs.Prelude.{◌≡◌, ◌⊎◌, ℕ, List, Result, Ok, Err}
+use Rattle.dns_wire.specs.declared.error.EmitError.{EmitError}
+use Rattle.dns_wire.specs.declared.error.EmitError.TheVariants as emit_errors
+use Rattle.dns_grammar.specs.Messages.{Message, MessageAt}
+use Rattle.sec_digest.specs.Mac.{mac_octets}
 use Rattle.dns_rdata.specs.RDataTable.{rdata_table}
-use Rattle.dns_grammar.specs.Messages as grammar
-use Rattle.dns_grammar.specs.Messages.{Message, ResourceRecord, Signature, outline_of, signature_from}
-use Rattle.dns_grammar.specs.Messages.{queries_at, records_at, sized_header_at}
-use Rattle.sec_sigdata.specs.TsigRecords.{borrowed_data, borrowed_fields, TsigFits, TsigIsByNumber}
-use Rattle.sec_tsig.specs.declared.header.Header.{Header}
-use Rattle.sec_tsig.specs.declared.outline.Outline.{Outline}
-use Rattle.sec_tsig.specs.declared.record_head.RecordHead.{RecordHead}
-use Rattle.sec_tsig.specs.declared.signature_view.SignatureView.{SignatureView}
+use Rattle.dns_message.specs.declared.response.DnsResponse.{DnsResponse}
+use Rattle.dns_message.specs.OwnedMessages.{IsReadMessage}
+use Rattle.dns_message.specs.Parts.{parts_of}
+use Rattle.dns_message.specs.Responses.{response_octets, response_message, response_parts}
+use Rattle.sec_tsig.specs.declared.chain_step.ChainStep.{ChainStep}
+use Rattle.sec_tsig.specs.declared.verify_error.VerifyError.{VerifyError}
+use Rattle.sec_tsig.specs.declared.verify_error.VerifyError.TheVariants as causes
+use Rattle.std.specs.declared.ops.Range.{Range}
+use Rattle.std.specs.Global.{Vec}
+use Rattle.sec_tsig.specs.Verdict.{Chain, advanced}
+use Rattle.sec_tsig.specs.Received.{Checked}
 
-abbrev pub header_view : Header → grammar.Header
-header_view h = record {
-  id = h.id;
-  flags = h.flags;
-  questions = h.questions;
-  answers = h.answers;
-  authorities = h.authorities;
-  additionals = h.additionals;
-}
+-- the chain behind an accepted answer
+abbrev pub stepped : Chain → ChainStep → Chain
+stepped chain step = advanced chain (mac_octets step.mac) step.time
 
-abbrev pub head_view : RecordHead → grammar.RecordHead
-head_view h = record {
-  start = h.start;
-  name = h.name;
-  rtype = h.rtype;
-  dns_class = h.dns_class;
-  ttl = h.ttl;
-  data_length = h.length;
-}
+-- the answer is the verdict; Ok moved the chain, and a refusal left it as it was
+abbrev pub MovesChain : {X : Type 0} → Result X VerifyError → Chain → Chain → Result Chain VerifyError → Type 0
+MovesChain (Ok _) old new verdict = verdict ≡ Ok new
+MovesChain (Err cause) old new verdict = (verdict ≡ Err cause) × (new ≡ old)
 
-abbrev pub signature_view : SignatureView → Signature
-signature_view s = record { start = s.start; name = s.name; tsig = borrowed_data s.tsig }
+-- the same, but that want of memory may come in place of any answer
+abbrev pub MovesChainUnless : {X : Type 0} → Result X VerifyError → Chain → Chain → Result Chain VerifyError → Type 0
+MovesChainUnless (Ok _) old new verdict = verdict ≡ Ok new
+MovesChainUnless (Err cause) old new verdict = ((cause ≡ causes.OutOfMemory) ⊎ (verdict ≡ Err cause)) × (new ≡ old)
 
--- the outline of a message, and the place behind its parts
-abbrev pub outline_view : Outline → grammar.Outline × ℕ
-outline_view o = (record { header = header_view o.header; signature = option_map signature_view o.signature }, o.end)
+-- the response that stands in octets, as it is read
+pub record IsResponseOf (m : List ℕ) (response : DnsResponse) : Type 0 where
+  pub octets : response_octets response ≡ m
+  pub message : (message : Message) × (e : ℕ) × MessageAt rdata_table m message e
+      × (response_parts response ≡ parts_of message)
+  pub as_read : IsReadMessage (response_message response)
 
--- the signature starts at this place or behind it, within the message, and is counted
-pub record IsPlaced (first : ℕ) (m : List ℕ) (header : Header) (s : SignatureView) : Type 0 where
-  pub fits : TsigFits (borrowed_fields s.tsig)
-  pub named : TsigIsByNumber (borrowed_fields s.tsig)
-  pub ahead : first ≤ s.start
-  pub inside : s.start ≤ length m
-  pub counted : 1 ≤ header.additionals
+-- a MAC, the time signed and the window
+abbrev pub checked_view : Vec ℕ × ℕ × Range ℕ → Checked
+checked_view x = record { mac = x.0.items; time = x.1; start = x.2.start; end = x.2.end }
 
--- the outline of a message that is read
-abbrev pub outlined : Result (Message × ℕ) DecodeError → Result (grammar.Outline × ℕ) DecodeError
-outlined read = read >>= λ x. Ok (outline_of x.0, x.1)
-
--- a record that is read, as a transaction signature
-abbrev pub as_signature : Result (ResourceRecord × ℕ) DecodeError → Result (Option Signature × ℕ) DecodeError
-as_signature read = read >>= λ rr. Ok (signature_from rr.0, rr.1)
-
--- the header of a message, and the place behind its questions and all its records but the last additional
-unfoldable pub ahead_at : List ℕ → Result (grammar.Header × ℕ) DecodeError
-ahead_at m = do
-  header ← sized_header_at m
-  queries ← without_value (queries_at header.0.questions m header.1)
-  answers ← without_value (records_at rdata_table header.0.answers m queries.1)
-  authorities ← without_value (records_at rdata_table header.0.authorities m answers.1)
-  others ← without_value (records_at rdata_table (header.0.additionals - 1) m authorities.1)
-  Ok (header.0, others.1)
+-- Ok made of the old octets those that the definition gives; an error is want of memory or the definition's, and left
+-- them as they were
+abbrev pub Becomes : Result (Unit {0}) EmitError → List ℕ → List ℕ → Result (List ℕ) EmitError → Type 0
+Becomes (Ok _) old new given = given ≡ Ok new
+Becomes (Err cause) old new given = ((cause ≡ emit_errors.OutOfMemory) ⊎ (given ≡ Err cause)) × (new ≡ old)

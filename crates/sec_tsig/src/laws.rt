@@ -1,27 +1,24 @@
 //! What is true of the definitions. Nothing calls these functions.
-ghost use Rattle.std.specs.Prelude.{◌≡◌};
-ghost use Rattle.std.specs.List.{IsDistinct, list_any};
-ghost use Rattle.dns_grammar.specs.Messages.{Message};
-ghost use Rattle.sec_tsig.specs.declared.first_set.FirstSet.{FirstSet as record_set};
-ghost use Rattle.sec_tsig.specs.Laws.{AnswerIsByMessage, NoMessageIsDecode, RequestIsByMessage, NoMessageIsNoRequest};
-ghost use Rattle.sec_tsig.specs.RecordSets.{listed_records, message_sets, same_set};
+ghost use Rattle.sec_tsig.specs.Laws.{VerdictIsByMessage, NoMessageIsDecode, ValidIsAccepted, AcceptedIsValid};
+ghost use Rattle.sec_tsig.specs.Laws.{InputHasOneReading};
 
-/// A set is among those of a message exactly where a record is of it that forms sets, and no set is there twice.
-pub fn sets_are_those_of_records()
-    ensures each { (set : record_set) (message : Message)
-        → list_any (same_set set) (message_sets message) ≡ list_any (same_set set) (listed_records message) }
-    ensures once { (message : Message) → IsDistinct same_set (message_sets message) }
-{}
+use sec_digest::laws::length_of_hmac;
 
-/// An answer is decided by the message that stands in its octets, and can't be decoded exactly where none stands.
-pub fn answer_is_by_its_message()
-    ensures stands { AnswerIsByMessage }
+/// The verdict on octets is decided by the message that stands in them, and is `Decode` exactly where none stands.
+pub fn verdict_is_by_its_message()
+    ensures stands { VerdictIsByMessage }
     ensures none { NoMessageIsDecode }
 {}
 
-/// What a request is signed as is decided by the message that stands in its octets, and nothing is signed where none
-/// stands.
-pub fn request_is_by_its_message()
-    ensures stands { RequestIsByMessage }
-    ensures none { NoMessageIsNoRequest }
+/// The valid responses for a chain are accepted, and no other octets.
+pub fn valid_is_accepted()
+    ensures accepted { ValidIsAccepted }
+    ensures valid { AcceptedIsValid }
+{
+    length_of_hmac();
+}
+
+/// Octets under a MAC have one reading.
+pub fn input_one_reading()
+    ensures { InputHasOneReading }
 {}

@@ -1,21 +1,32 @@
 //! Transaction signatures of messages (RFC 8945).
 #![tactic(auto)]
 
-mod first_set;
-mod header;
+mod bitmessage;
+mod chain_step;
+mod input_buffer;
 pub mod laws;
+mod mac_check;
 mod mac_input;
-mod outline;
-mod rdata;
-mod record_head;
-mod record_walk;
-mod set_list;
-mod signature_view;
+mod message_check;
+mod message_signing;
+mod request;
+mod response_context;
+mod sign_error;
 mod signer;
+mod signing;
+mod takes;
+mod tbs;
 mod tsig_record;
 mod verifier;
 mod verify_error;
 
-pub use first_set::FirstSet;
-pub use signer::{FirstSignError, FirstSigner};
-pub use verifier::{FirstError, FirstVerifier};
+pub use bitmessage::signed_bitmessage_to_buf;
+pub use chain_step::ChainStep;
+pub use request::is_request;
+pub use response_context::TSigResponseContext;
+pub use sign_error::TsigSignError;
+pub use signer::TSigner;
+pub use tbs::message_tbs;
+pub use tsig_record::{append_tsig, make_tsig_record};
+pub use verifier::TSigVerifier;
+pub use verify_error::VerifyError;

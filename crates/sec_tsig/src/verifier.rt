@@ -1,41 +1,31 @@
-//! Checking the answer to a signed request.
-ghost use Rattle.std.specs.Prelude.{◌≡◌, true, Ok};
-ghost use Rattle.dns_rdata.specs.RDataTable.{rdata_table};
-ghost use Rattle.dns_grammar.specs.Messages.{message_at};
-ghost use Rattle.std.specs.Option.{option_map, ForSome};
-ghost use Rattle.std.specs.Str.{bytes_eq};
-ghost use Rattle.dns_wire.specs.Reading.{Gives, GivesUnless};
+//! Checking the answers to a signed request.
+ghost use Rattle.std.specs.Prelude.{◌≡◌, ◌≢◌, true, Some, Err, IfOk};
+ghost use Rattle.std.specs.Option.{ForSome, option_copied};
+ghost use Rattle.dns_wire.specs.Reading.{Gives};
 ghost use Rattle.sec_digest.specs.Mac.{mac_octets};
-ghost use Rattle.sec_tsig.specs.Views.{header_view, outlined, outline_view, signature_view, IsPlaced};
-ghost use Rattle.sec_sigdata.specs.TsigRecords.{borrowed_fields, TsigFits};
-ghost use Rattle.sec_tsig.specs.Verdict.{accepted, expected_mac, is_in_time, signature_verdict, tsig_verdict};
-ghost use Rattle.sec_tsig.specs.FirstMessages.{first_answer};
+ghost use Rattle.dns_message.specs.Views.{header_view, tsig_view, IsPlaced, TsigViewFits};
+ghost use Rattle.sec_tsig.specs.Views.{stepped, IsResponseOf, MovesChain, MovesChainUnless};
+ghost use Rattle.sec_tsig.specs.Verdict.{is_in_time, signature_verdict, verdict};
 
-use crate::first_set::FirstSet;
-use crate::header::Header;
-use crate::mac_input::feed_mac_input;
-use crate::outline::Outline;
-use crate::record_walk::record_sets;
-use crate::signature_view::SignatureView;
-use crate::signer::FirstSigner;
+use crate::chain_step::ChainStep;
+use crate::signer::TSigner;
 use crate::verify_error::VerifyError;
+use dns_message::{DnsResponse, Header, MessageView, TsigView};
 use sec_digest::Mac;
-use std::alloc::Global;
 use std::marker::Model;
-use thiserror::Error;
 
-/// Checks the first answer to a signed request: the signer, the time of the request, the last MAC and the last time
-/// signed.
+/// Checks the answers to a signed request, one behind the other: who signs, the time of the request, the last MAC, the
+/// last time signed, and whether the next answer is the first. A contract sees it as a `Chain`.
 #[derive(Debug, Drop)]
-pub struct FirstVerifier {
-    signer: FirstSigner,
+pub struct TSigVerifier {
+    signer: TSigner,
     request_time: u64,
     mac: Mac,
     time: u64,
     first: bool,
 }
 
-impl Model for FirstVerifier {
+impl Model for TSigVerifier {
     ghost use Rattle.sec_tsig.specs.Verdict.{Chain};
     ghost use Rattle.sec_digest.specs.Mac.{mac_octets};
 
@@ -50,23 +40,9 @@ impl Model for FirstVerifier {
     } };
 }
 
-/// Why an answer gives no record sets: the first that holds.
-#[derive(Clone, Copy, Debug, PartialEq, Eq, Error)]
-pub enum FirstError {
-    /// The octets are no message.
-    #[error("no message")]
-    Decode,
-    /// No valid answer to the request.
-    #[error("no valid answer")]
-    Invalid,
-    /// There was no memory.
-    #[error("out of memory")]
-    OutOfMemory,
-}
-
-impl FirstVerifier {
+impl TSigVerifier {
     /// A verifier of the first answer to a request with this MAC.
-    pub(crate) fn new(signer: FirstSigner, request_time: u64, mac: Mac) -> FirstVerifier
+    pub(crate) fn new(signer: TSigner, request_time: u64, mac: Mac) -> TSigVerifier
         ensures { result ≡ record {
           signer = signer;
           request_time = request_time;
@@ -75,7 +51,7 @@ impl FirstVerifier {
           first = true;
         } }
     {
-        FirstVerifier {
+        TSigVerifier {
             signer,
             request_time,
             mac,
@@ -84,34 +60,22 @@ impl FirstVerifier {
         }
     }
 
-    /// Whether a message was signed no earlier than the last one, and the request was sent within its window.
-    fn is_in_time(&self, signature: &SignatureView<'_>) -> bool
-        requires { TsigFits (borrowed_fields signature.now.tsig) }
-        ensures { result ≡ is_in_time self.now (signature_view signature.now) }
+    /// Whether the next answer is the first.
+    pub fn is_first(&self) -> bool
+        ensures { result ≡ self.now.first }
     {
-        let time = signature.tsig.time;
-        let fudge = u64::from(signature.tsig.fudge);
-        self.time <= time
-            && time.saturating_sub(fudge) <= self.request_time
-            && self.request_time < time + fudge
+        self.first
     }
 
-    /// Whether the TSIG has the MAC that the message must have.
-    fn has_mac(&self, octets: &[u8], header: &Header, signature: &SignatureView<'_>) -> bool
-        requires { IsPlaced 12 octets.now header.now signature.now }
-        ensures { result ≡ bytes_eq signature.now.tsig.mac.now
-            (expected_mac self.now octets.now (header_view header.now) (signature_view signature.now)) }
+    /// Whether a message was signed no earlier than the last one, and the request was sent within its window.
+    fn is_in_time(&self, tsig: &TsigView<'_>) -> bool
+        requires { TsigViewFits tsig.now }
+        ensures { result ≡ is_in_time self.now (tsig_view tsig.now) }
     {
-        let mut hasher = self.signer.hasher();
-        feed_mac_input(
-            &mut hasher,
-            self.mac.as_slice(),
-            self.first,
-            header.additionals,
-            octets,
-            signature,
-        );
-        hasher.verify(signature.tsig.mac)
+        let fudge = u64::from(tsig.fudge);
+        self.time <= tsig.time
+            && tsig.time.saturating_sub(fudge) <= self.request_time
+            && self.request_time < tsig.time + fudge
     }
 
     /// The verdict on a message with this TSIG.
@@ -120,76 +84,94 @@ impl FirstVerifier {
         &self,
         octets: &[u8],
         header: &Header,
-        signature: &SignatureView<'_>,
-    ) -> Result<(), VerifyError>
-        requires { IsPlaced 12 octets.now header.now signature.now }
-        ensures { Gives (λ u. u) result (accepted
-            (signature_verdict self.now octets.now (header_view header.now) (signature_view signature.now))) }
+        tsig: &TsigView<'_>,
+    ) -> Result<ChainStep, VerifyError>
+        requires { IsPlaced octets.now header.now tsig.now }
+        ensures exact { Gives (λ step. stepped self.now step) result
+            (signature_verdict self.now octets.now (header_view header.now) (tsig_view tsig.now)) }
+        ensures never { result ≢ Err VerifyError.OutOfMemory }
     {
-        if !self.signer.has_key_of(signature) {
-            return Err(VerifyError::TsigWrongKey);
-        }
-        if signature.tsig.mac.len() < self.signer.mac_len() {
-            return Err(VerifyError::TruncatedMac);
-        }
-        if !self.has_mac(octets, header, signature) {
-            return Err(VerifyError::HmacInvalid);
-        }
-        if !self.is_in_time(signature) {
+        let previous = Some(self.mac.as_slice());
+        let mac = self
+            .signer
+            .checked_mac(previous, self.first, octets, header, tsig)?;
+        if !self.is_in_time(tsig) {
             return Err(VerifyError::Outdated);
         }
         if header.flags < 0x8000 {
             return Err(VerifyError::NotAResponse);
         }
-        Ok(())
+        Ok(ChainStep {
+            mac,
+            time: tsig.time,
+        })
     }
 
-    /// The verdict on a message.
-    fn verdict(&self, octets: &[u8], outline: &Outline<'_>) -> Result<(), VerifyError>
-        requires { ForSome outline.now.signature (IsPlaced 12 octets.now outline.now.header) }
-        ensures { Gives (λ u. u) result (accepted
-            (tsig_verdict self.now octets.now (header_view outline.now.header)
-            (option_map signature_view outline.now.signature))) }
-    {
-        match &outline.signature {
-            None => Err(VerifyError::MissingTsig),
-            Some(signature) => self.signature_verdict(octets, &outline.header, signature),
-        }
-    }
-
-    /// The record sets of an answer with this outline.
-    fn answer_of(
-        &self,
-        alloc: Global,
-        octets: &[u8],
-        outline: &Outline<'_>,
-    ) -> Result<Vec<FirstSet>, FirstError>
-        requires read { outlined (message_at rdata_table octets.now) ≡ Ok (outline_view outline.now) }
-        requires placed { ForSome outline.now.signature (IsPlaced 12 octets.now outline.now.header) }
-        ensures { GivesUnless FirstError.OutOfMemory (λ sets. sets.items) result (first_answer self.now octets.now) }
-    {
-        if self.verdict(octets, outline).is_err() {
-            return Err(FirstError::Invalid);
-        }
-        match record_sets(alloc, octets) {
-            Ok(sets) => Ok(sets),
-            Err(_) => Err(FirstError::OutOfMemory),
-        }
-    }
-
-    /// The record sets of an answer.
+    /// The verdict on octets (RFC 8945 5.2 to 5.4): by what they would move the chain, which stays as it is. It takes
+    /// no memory.
     ///
     /// # Errors
     ///
-    /// `Decode` where the octets are no message, and `Invalid` where its TSIG is missing, of another key or algorithm, has a MAC that is cut or wrong, where it
-    /// was signed at a time whose window does not hold the time of the request, and where it is no response.
-    /// `OutOfMemory` where there is none.
-    pub fn answer(&self, alloc: Global, octets: &[u8]) -> Result<Vec<FirstSet>, FirstError>
-        ensures { GivesUnless FirstError.OutOfMemory (λ sets. sets.items) result (first_answer self.now octets.now) }
+    /// `Decode` where the octets are no message, more than 65,535 octets among them; octets behind the message are no
+    /// fault. Then `MissingTsig`, `TsigWrongKey`, `TruncatedMac`, `HmacInvalid`, `Outdated` or `NotAResponse`, the first
+    /// that holds. Never `OutOfMemory`.
+    pub fn verdict(&self, octets: &[u8]) -> Result<ChainStep, VerifyError>
+        ensures verdict { Gives (λ step. stepped self.now step) result (verdict self.now octets.now) }
+        ensures never { result ≢ Err VerifyError.OutOfMemory }
     {
-        match Outline::read(octets) {
-            Err(_) => Err(FirstError::Decode),
-            Ok(outline) => self.answer_of(alloc, octets, &outline),
+        let Ok(view) = MessageView::parse(octets) else {
+            return Err(VerifyError::Decode);
+        };
+        match view.tsig() {
+            None => Err(VerifyError::MissingTsig),
+            Some(tsig) => self.signature_verdict(octets, &view.header(), &tsig),
+        }
+    }
+
+    /// Moves the chain behind an answer on which the verdict gave this step.
+    pub fn advance(&mut self, step: ChainStep)
+        ensures { self.new ≡ stepped self.old step }
+    {
+        self.mac = step.mac;
+        self.time = step.time;
+        self.first = false;
+    }
+
+    /// Checks the next answer (RFC 8945 5.2 to 5.4), and moves the chain behind it where it is accepted. It takes no
+    /// memory.
+    ///
+    /// # Errors
+    ///
+    /// Those of `verdict`. The chain then stays as it was.
+    pub fn check(&mut self, response_bytes: &[u8]) -> Result<(), VerifyError>
+        ensures verdict { MovesChain result self.old self.new (verdict self.old response_bytes.now) }
+        ensures never { result ≢ Err VerifyError.OutOfMemory }
+    {
+        let step = self.verdict(response_bytes)?;
+        self.advance(step);
+        Ok(())
+    }
+
+    /// Checks the next answer (RFC 8945 5.2 to 5.4), reads it, and moves the chain behind it where it is accepted.
+    ///
+    /// # Errors
+    ///
+    /// Those of `verdict`, or `OutOfMemory`. The chain then stays as it was.
+    pub fn verify(&mut self, response_bytes: &[u8]) -> Result<DnsResponse, VerifyError>
+        ensures verdict { MovesChainUnless result self.old self.new (verdict self.old response_bytes.now) }
+        ensures response { IfOk result (IsResponseOf response_bytes.now) }
+    {
+        let next = self.verdict(response_bytes)?;
+        let Ok(buffer) = Vec::from_slice(self.signer.alloc(), response_bytes) else {
+            return Err(VerifyError::OutOfMemory);
+        };
+        // The octets are a response, since the verdict is right: what may be wanting is memory.
+        match DnsResponse::from_buffer(buffer) {
+            Ok(response) => {
+                self.advance(next);
+                Ok(response)
+            }
+            Err(_) => Err(VerifyError::OutOfMemory),
         }
     }
 }

@@ -1,5 +1,13 @@
-//! Tests of signing a request and judging an answer.
+//! Tests of signing requests and answers, and of judging answers.
 #![tactic(auto)]
 
 #[cfg(test)]
-mod tsig;
+mod responses;
+#[cfg(test)]
+mod signing;
+#[cfg(test)]
+mod stream;
+#[cfg(test)]
+mod strings;
+#[cfg(test)]
+mod verdicts;

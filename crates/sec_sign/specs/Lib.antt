@@ -1,0 +1,9 @@
+pub mod Ascending
+pub mod Causes
+pub mod Signed
+pub mod Signers
+pub mod Signing
+pub mod Verifying
+pub mod Pairs
+pub mod KeyedHashes
+pub mod OneReading

@@ -1,0 +1,137 @@
+-- When a key may have made a signature of a record set, and whether it did (RFC 4035 5.3.1).
+use Rattle.std.specs.Prelude.{Bool, false, ◌&&◌, ℕ, ◌+◌, ◌-◌, ◌%◌, ◌^◌, nat_eq, nat_lt, nat_le, if◌then◌else◌, is_ok}
+use Rattle.std.specs.Prelude.{List, length, drop, Option, Some, None, Result, Ok, Err}
+use Rattle.dns_wire.specs.declared.error.EmitError.{EmitError}
+use Rattle.dns_names.specs.Names.{count, same}
+use Rattle.sec_codes.specs.Algorithms.{number, supported}
+use Rattle.sec_codes.specs.KeyForms.{Key, key_form}
+use Rattle.sec_keydata.specs.declared.key_data_error.KeyDataError.{KeyDataError}
+use Rattle.sec_keydata.specs.DnsKeyFlags.{is_zone_key}
+use Rattle.sec_keydata.specs.DnsKeys.{DnsKeyData}
+use Rattle.sec_keydata.specs.KeyTags.{dnskey_tag}
+use Rattle.sec_sigdata.specs.declared.rrsig.RRSIG.{RRSIG}
+use Rattle.sec_sigdata.specs.declared.sig_input.SigInput.{SigInput}
+use Rattle.sec_sigdata.specs.Signatures.{SigData, rrsig_data}
+use Rattle.dns_rdata.specs.declared.dnssec_rdata.DNSSECRData.TheVariants as dnssec
+use Rattle.dns_rdata.specs.declared.rdata.RData.{RData}
+use Rattle.dns_rdata.specs.declared.rdata.RData.TheVariants as rdata
+use Rattle.dns_message.specs.declared.record.Record.{Record}
+use Rattle.sec_sign.specs.declared.pair.TheConstants.{LONGEST_KEY}
+use Rattle.sec_sign.specs.declared.pair.PairVerdict.{PairVerdict}
+use Rattle.sec_sign.specs.declared.pair.PairVerdict.TheVariants.{NotMet, NotAccepted, Authentic}
+use Rattle.sec_sign.specs.declared.tbs_error.TbsError.{TbsError}
+use Rattle.sec_sign.specs.Signed.{set_data, signed_of}
+use Rattle.sec_sign.specs.Verifying.{Relation}
+
+-- ---- times
+
+-- how far a serial number of 32 bits is behind another, which wrap (RFC 1982 3)
+abbrev pub serial_distance : ℕ → ℕ → ℕ
+serial_distance from to = (to + (2 ^ 32 - from)) % 2 ^ 32
+
+-- whether a serial number is not behind another: less than half of all before it, or the same (RFC 1982 3.2)
+abbrev pub is_up_to : ℕ → ℕ → Bool
+is_up_to from to = nat_lt (serial_distance from to) (2 ^ 31)
+
+-- whether a moment is within the times of a signature (RFC 4034 3.1.5)
+abbrev pub is_within_times : SigInput → ℕ → Bool
+is_within_times h moment = is_up_to h.sig_inception.0 moment && is_up_to moment h.sig_expiration.0
+
+-- ---- keys
+
+-- whether a key's algorithm is supported, and the key has the form of the algorithm's keys and fits a record
+abbrev pub is_well_formed : Key → Bool
+is_well_formed key =
+    supported key.algorithm && (nat_le (length key.octets) LONGEST_KEY && is_ok (key_form key.algorithm key.octets))
+
+-- whether a key has this tag
+abbrev pub is_tag : Result ℕ KeyDataError → ℕ → Bool
+is_tag (Ok tag) n = nat_eq tag n
+is_tag (Err _) n = false
+
+-- a key of a zone: the owner of its record, the class, and the DNSKEY
+pub record ZoneKey : Type 0 where
+  pub owner : List (List ℕ)
+  pub dns_class : ℕ
+  pub dnskey : DnsKeyData
+
+-- ---- the conditions
+
+-- whether n is z, or is below z
+abbrev pub is_under : List (List ℕ) → List (List ℕ) → Bool
+is_under n z = same (drop (length n - length z) n) z
+
+-- what names a record set: a name, a class and a type
+pub record SetName : Type 0 where
+  pub name : List (List ℕ)
+  pub dns_class : ℕ
+  pub rtype : ℕ
+
+-- An RRSIG with this owner and class, and with these fields, is one of the set: it has the set's owner, class and type,
+-- and as many labels as the owner, a `*` in front not counted.
+abbrev pub covers_set : SetName → List (List ℕ) → ℕ → SigInput → Bool
+covers_set set owner dns_class h =
+    nat_eq h.type_covered set.rtype
+    && (nat_eq dns_class set.dns_class && (nat_eq h.num_labels (count set.name) && same owner set.name))
+
+-- It names the key: the signer is the owner of the key, the classes agree, and so do algorithms and tags.
+abbrev pub names_key : ZoneKey → ℕ → SigInput → Bool
+names_key key dns_class h =
+    nat_eq dns_class key.dns_class
+    && (nat_eq (number h.algorithm) (number key.dnskey.public_key.algorithm)
+    && (same h.signer_name key.owner && is_tag (dnskey_tag key.dnskey) h.key_tag))
+
+-- A key may sign a set with this name: it is a well-formed key of a zone that the name is in.
+abbrev pub may_sign : List (List ℕ) → DnsKeyData → List (List ℕ) → Bool
+may_sign owner dnskey n = is_zone_key dnskey.flags && (is_under n owner && is_well_formed dnskey.public_key)
+
+-- An RRSIG with this owner, class and fields and a key meet a set at a moment (RFC 4035 5.3.1).
+abbrev pub meets : ℕ → SetName → List (List ℕ) → ℕ → SigInput → ZoneKey → Bool
+meets moment set owner dns_class h key =
+    covers_set set owner dns_class h
+    && (is_within_times h moment && (names_key key dns_class h && may_sign key.owner key.dnskey set.name))
+
+-- ---- the verdict
+
+-- the RRSIG that data are, if they are one that isn't empty
+abbrev pub rrsig_of : RData → Option RRSIG
+rrsig_of (rdata.DNSSEC (dnssec.RRSIG rrsig)) = Some rrsig
+rrsig_of _ = None
+
+-- whether there is a string, and it passes
+abbrev pub passes : (List ℕ → Bool) → Result (List ℕ) TbsError → Bool
+passes test (Ok octets) = test octets
+passes test (Err _) = false
+
+-- whether the key made the signature of the set with a name and a class and with these data: there is a string to be
+-- signed, and the scheme accepts the signature of it
+abbrev pub is_authentic : Relation → List (List ℕ) → ℕ → SigData → Key → Result (List (List ℕ)) EmitError → Bool
+is_authentic accepts n k sig key set =
+    passes (λ octets. accepts key.algorithm key.octets octets sig.sig) (signed_of sig.input n k set)
+
+-- the RRSIG by which a record and a key meet the set at a moment
+abbrev pub met_by : ℕ → SetName → Record RData → ZoneKey → Option RRSIG
+met_by moment set rr key = where_met (rrsig_of rr.rdata)
+  where
+    where_met : Option RRSIG → Option RRSIG
+    where_met None = None
+    where_met (Some rrsig) =
+        if meets moment set rr.name rr.dns_class (rrsig_data rrsig).input key then Some rrsig else None
+
+-- the verdict on the RRSIG, if there is one, and the key
+abbrev pub verdict_on : Relation → SetName → Key → Result (List (List ℕ)) EmitError → Option RRSIG → PairVerdict
+verdict_on accepts set key octets None = NotMet
+verdict_on accepts set key octets (Some rrsig) =
+    if is_authentic accepts set.name set.dns_class (rrsig_data rrsig) key octets then Authentic else NotAccepted
+
+-- the verdict on a record and a key at a moment, for the set with these data, which are none where a record of the set
+-- can't be written
+abbrev pub set_verdict : Relation → ℕ → SetName → Record RData → ZoneKey → Result (List (List ℕ)) EmitError
+    → PairVerdict
+set_verdict accepts moment set rr key octets =
+    verdict_on accepts set key.dnskey.public_key octets (met_by moment set rr key)
+
+-- the verdict on a record and a key at a moment, for the set that is among these records
+abbrev pub pair_verdict : Relation → ℕ → SetName → Record RData → ZoneKey → List (Record RData) → PairVerdict
+pair_verdict accepts moment set rr key records =
+    set_verdict accepts moment set rr key (set_data set.name set.dns_class set.rtype records)

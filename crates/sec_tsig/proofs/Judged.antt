@@ -1,0 +1,94 @@
+-- What octets come to, by the view of the message in them.
+use Rattle.std.proofs.Common.{◌≡◌, ℕ, ◌&&◌, false, ◌==◌, is_none, List, length, Option, Some, None, option_map, Result, Ok}
+use Rattle.std.proofs.Common.{Err, refl, sym, ap, ◌∙◌, Bool, true}
+use Rattle.dns_wire.specs.declared.error.DecodeError.{DecodeError}
+use Rattle.dns_grammar.specs.Messages.{Message, Outline, Header, Signature, outline_of, message_at}
+use Rattle.dns_rdata.specs.RDataTable.{rdata_table}
+use Rattle.dns_message.specs.declared.tsig_view.TsigView.{TsigView}
+use Rattle.dns_message.specs.declared.view.MessageView.{MessageView}
+use Rattle.dns_message.specs.Views.{header_view, outline_view, outlined, tsig_view, view_end, view_header, view_tsig}
+use Rattle.dns_message.proofs.ViewLaws.{has_outline}
+use Rattle.sec_tsig.specs.declared.verify_error.VerifyError.{VerifyError}
+use Rattle.sec_tsig.specs.declared.verify_error.VerifyError.TheVariants as causes
+use Rattle.sec_tsig.specs.Verdict.{judged, with_signature}
+use Rattle.sec_tsig.specs.Requests.{is_request, reads_request}
+
+-- a message that is viewed
+pub judged_read : {X : Type 0} (found : Header → Signature → Result X VerifyError) (m : List ℕ) (view : MessageView)
+    → outlined (message_at rdata_table m) ≡ Ok (outline_view view)
+    → judged found (message_at rdata_table m)
+    ≡ with_signature found (header_view (view_header view)) (option_map tsig_view (view_tsig view))
+judged_read found m view is =
+    let has = has_outline m (outline_view view) is in
+    ap (judged found) has.read
+    ∙ ap (λ (y : Outline × ℕ). with_signature found y.0.header y.0.signature) has.same
+
+-- with a TSIG
+pub judged_some : {X : Type 0} (found : Header → Signature → Result X VerifyError) (m : List ℕ) (view : MessageView)
+    (tsig : TsigView) → outlined (message_at rdata_table m) ≡ Ok (outline_view view) → view_tsig view ≡ Some tsig
+    → judged found (message_at rdata_table m) ≡ found (header_view (view_header view)) (tsig_view tsig)
+judged_some found m view tsig is has =
+    judged_read found m view is
+    ∙ ap (λ t. with_signature found (header_view (view_header view)) (option_map tsig_view t)) has
+
+-- without one
+pub judged_none : {X : Type 0} (found : Header → Signature → Result X VerifyError) (m : List ℕ) (view : MessageView)
+    → outlined (message_at rdata_table m) ≡ Ok (outline_view view) → view_tsig view ≡ None
+    → judged found (message_at rdata_table m) ≡ Err causes.MissingTsig
+judged_none found m view is has =
+    judged_read found m view is
+    ∙ ap (λ t. with_signature found (header_view (view_header view)) (option_map tsig_view t)) has
+
+-- no message
+pub judged_fault : {X : Type 0} (found : Header → Signature → Result X VerifyError) (m : List ℕ) (fault : DecodeError)
+    → outlined (message_at rdata_table m) ≡ Err fault
+    → judged found (message_at rdata_table m) ≡ Err causes.Decode
+judged_fault found m fault is = go (message_at rdata_table m) is
+  where
+    go : (read : Result (Message × ℕ) DecodeError) → outlined read ≡ Err fault
+        → judged found read ≡ Err causes.Decode
+    go (Ok x) is = absurd cc
+    go (Err e) is = refl
+
+-- ---- requests
+
+pub request_read : (m : List ℕ) (view : MessageView) → outlined (message_at rdata_table m) ≡ Ok (outline_view view)
+    → is_request m ≡ ((view_end view == length m) && is_none (option_map tsig_view (view_tsig view)))
+request_read m view is =
+    let has = has_outline m (outline_view view) is in
+    ap (reads_request m) has.read
+    ∙ ap (λ (y : Outline × ℕ). (y.1 == length m) && is_none y.0.signature) has.same
+
+pub request_fault : (m : List ℕ) (fault : DecodeError) → outlined (message_at rdata_table m) ≡ Err fault
+    → is_request m ≡ false
+request_fault m fault is = go (message_at rdata_table m) is
+  where
+    go : (read : Result (Message × ℕ) DecodeError) → outlined read ≡ Err fault → reads_request m read ≡ false
+    go (Ok x) is = absurd cc
+    go (Err e) is = refl
+
+pub request_bare : (m : List ℕ) (view : MessageView)
+    → outlined (message_at rdata_table m) ≡ Ok (outline_view view) → view_tsig view ≡ None
+    → is_request m ≡ (view_end view == length m)
+request_bare m view is none =
+    request_read m view is
+    ∙ ap (λ (t : Option TsigView). (view_end view == length m) && is_none (option_map tsig_view t)) none
+    ∙ whole (view_end view == length m)
+  where
+    whole : (b : Bool) → b && true ≡ b
+    whole true = refl
+    whole false = refl
+
+pub request_signed : (m : List ℕ) (view : MessageView) (tsig : TsigView)
+    → outlined (message_at rdata_table m) ≡ Ok (outline_view view) → view_tsig view ≡ Some tsig
+    → is_request m ≡ false
+request_signed m view tsig is some =
+    request_read m view is
+    ∙ ap (λ (t : Option TsigView). (view_end view == length m) && is_none (option_map tsig_view t)) some
+    ∙ whole (view_end view == length m)
+  where
+    whole : (b : Bool) → b && false ≡ false
+    whole true = refl
+    whole false = refl
+
+pub ruleset requests = (request_bare, request_signed, request_fault)

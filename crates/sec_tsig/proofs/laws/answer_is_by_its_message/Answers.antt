@@ -1,8 +1,0 @@
-use Rattle.sec_tsig.proofs.ByMessage.{answer_by_message, no_message_is_decode}
-use Rattle.sec_tsig.proofs.laws.answer_is_by_its_message.Goals as goal
-
-pub returns-clause-stands : goal.returns-clause-stands
-returns-clause-stands c = answer_by_message
-
-pub returns-clause-none : goal.returns-clause-none
-returns-clause-none c = no_message_is_decode
