@@ -1,1 +1,3 @@
-pub mod ContentLines
+pub mod ScriptLines
+pub mod RequestLength
+pub mod AnswerLines

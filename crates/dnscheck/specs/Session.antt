@@ -1,6 +1,6 @@
 -- The text and the status of a session.
-use Rattle.std.specs.Prelude.{◌≡◌, ℕ, ◌<◌, ◌≤◌, List, [], ◌∷◌, ◌++◌, length, codes, map, if◌then◌else◌, Option, Result}
-use Rattle.std.specs.Prelude.{Ok, Err, is_ok}
+use Rattle.std.specs.Prelude.{◌≡◌, ℕ, ◌<◌, ◌≤◌, List, [], ◌∷◌, ◌++◌, length, codes, if◌then◌else◌, Option}
+use Rattle.std.specs.Prelude.{Result, Ok, Err, is_ok}
 use Rattle.std.specs.declared.alloc.Global.{Global}
 use Rattle.std.specs.List.{flat_map, list_all, enumerate_from}
 use Rattle.std.specs.String.{string_bytes}
@@ -11,37 +11,63 @@ use Rattle.dns_io.specs.declared.status.Status.TheVariants.{Usage, ReadFault, To
 use Rattle.dns_io.specs.declared.status.Status.TheVariants.{ScriptFault, Refused, Accepted}
 use Rattle.dns_io.specs.declared.transfer.TheConstants.{INPUT_LIMIT}
 use Rattle.dns_io.specs.Transfer.{AppendsPrefix}
-use Rattle.sec_tsig.specs.declared.first_set.FirstSet.{FirstSet}
-use Rattle.sec_tsig.specs.declared.verifier.FirstError.{FirstError}
-use Rattle.sec_tsig.specs.Verdict.{Chain}
-use Rattle.sec_tsig.specs.FirstMessages.{first_answer}
+use Rattle.dns_wire.specs.declared.error.DecodeError.{DecodeError}
+use Rattle.dns_wire.specs.Reading.{◌>>=◌}
+use Rattle.dns_grammar.specs.Messages.{Message, message_at}
+use Rattle.dns_rdata.specs.RDataTable.{rdata_table}
+use Rattle.sec_tsig.specs.declared.verify_error.VerifyError.{VerifyError}
+use Rattle.sec_tsig.specs.Verdict.{Chain, verdict}
+use Rattle.sec_check.specs.declared.set_proof.SetProof.{SetProof}
+use Rattle.sec_check.specs.RecordSets.{message_sets}
 use Rattle.dnscheck.specs.declared.error.ScriptError.{ScriptError}
+use Rattle.dnscheck.specs.declared.error.ScriptError.TheVariants as errors
 use Rattle.dnscheck.specs.Script.{Answer, Script, script_of}
 use Rattle.dnscheck.specs.Text.{request_text, accepted_text, refused_text, set_text, fault_text}
 
--- The sets of each answer, or its cause. No answer moves the chain, since a script has only one as yet.
-abbrev pub verdicts : Chain → List Answer → List (Result (List FirstSet) FirstError)
-verdicts chain answers = map (λ answer. first_answer chain answer.octets) answers
+-- the record sets of the message that stands in octets, by what reading them gives
+abbrev pub sets_read : Result (Message × ℕ) DecodeError → List SetProof
+sets_read (Ok x) = message_sets x.0
+sets_read (Err _) = []
+
+-- what an answer comes to: its record sets and the chain behind it, or the cause for which it is refused
+abbrev pub Judged : Type 0
+Judged = Result (List SetProof × Chain) VerifyError
+
+abbrev pub judged : Chain → List ℕ → Judged
+judged chain octets = verdict chain octets >>= λ next. Ok (sets_read (message_at rdata_table octets), next)
+
+-- A refused answer leaves the chain as it was.
+abbrev pub next_chain : Chain → Judged → Chain
+next_chain chain (Ok found) = found.1
+next_chain chain (Err _) = chain
+
+-- what each answer comes to, for the chain of those accepted before it
+unfoldable pub verdicts : Chain → List Answer → List Judged
+verdicts chain [] = []
+verdicts chain (answer ∷ rest) =
+    judged chain answer.octets ∷ verdicts (next_chain chain (judged chain answer.octets)) rest
 
 -- a line for the answer, and one for each of its sets
-abbrev pub answer_text : ℕ → Result (List FirstSet) FirstError → List ℕ
-answer_text number (Ok sets) = accepted_text number (length sets) ++ flat_map set_text sets
+abbrev pub answer_text : ℕ → Judged → List ℕ
+answer_text number (Ok found) = accepted_text number (length found.0) ++ flat_map set_text found.0
 answer_text number (Err cause) = refused_text number cause
 
--- The answers are numbered from 1.
-abbrev pub answers_text : List (Result (List FirstSet) FirstError) → List ℕ
-answers_text found = flat_map (λ numbered. answer_text numbered.0 numbered.1) (enumerate_from 1 found)
+-- The answers are numbered from this number on.
+abbrev pub answers_text : ℕ → List Judged → List ℕ
+answers_text number found = flat_map (λ numbered. answer_text numbered.0 numbered.1) (enumerate_from number found)
 
 abbrev pub script_text : Result Script ScriptError → List ℕ
-script_text (Ok script) = request_text script.signed_request ++ answers_text (verdicts script.chain script.answers)
-script_text (Err _) = fault_text
+script_text (Ok script) = request_text script.request.0 ++ answers_text 1 (verdicts script.request.1 script.answers)
+script_text (Err (errors.Fault line reason)) = fault_text line reason
+script_text (Err errors.OutOfMemory) = []
 
+-- whether all answers are accepted
 abbrev pub script_status : Result Script ScriptError → Status
-script_status (Ok script) = if list_all is_ok (verdicts script.chain script.answers) then Accepted else Refused
+script_status (Ok script) = if list_all is_ok (verdicts script.request.1 script.answers) then Accepted else Refused
 script_status (Err _) = ScriptFault
 
 -- the text that the octets of a script make
-abbrev pub session : List ℕ → List ℕ
+unfoldable pub session : List ℕ → List ℕ
 session octets = script_text (script_of octets)
 
 -- the status that they come to

@@ -1,12 +1,17 @@
 -- The lines of the text, each with its line feed.
-use Rattle.std.specs.Prelude.{ℕ, List, ◌++◌, codes, if◌then◌else◌, ◌==◌}
+use Rattle.std.specs.Prelude.{ℕ, List, ◌++◌, codes}
 use Rattle.std.specs.Fmt.{decimal}
 use Rattle.dns_text.specs.HexText.{lower_hex}
 use Rattle.dns_names.specs.NameText.{name_text}
 use Rattle.dns_types.specs.Codes.{type_text, class_text}
-use Rattle.sec_tsig.specs.declared.first_set.FirstSet.{FirstSet}
-use Rattle.sec_tsig.specs.declared.verifier.FirstError.{FirstError}
-use Rattle.sec_tsig.specs.declared.verifier.FirstError.TheVariants.{Decode, Invalid, OutOfMemory}
+use Rattle.sec_codes.specs.Proofs.{proof_text}
+use Rattle.sec_check.specs.declared.section.Section.{Section}
+use Rattle.sec_check.specs.declared.section.Section.TheVariants as sections
+use Rattle.sec_check.specs.declared.set_proof.SetProof.{SetProof}
+use Rattle.sec_tsig.specs.declared.verify_error.VerifyError.{VerifyError}
+use Rattle.sec_tsig.specs.declared.verify_error.VerifyError.TheVariants as causes
+use Rattle.dnscheck.specs.declared.error.Reason.{Reason}
+use Rattle.dnscheck.specs.declared.error.Reason.TheVariants as reasons
 
 -- the signed request, in lower case
 abbrev pub request_text : List ℕ → List ℕ
@@ -17,22 +22,41 @@ abbrev pub accepted_text : ℕ → ℕ → List ℕ
 accepted_text number sets = codes "answer " ++ decimal number ++ codes " ok " ++ decimal sets ++ codes "\n"
 
 -- why an answer is refused (want of memory is no cause, and is never printed)
-abbrev pub cause_word : FirstError → List ℕ
-cause_word Decode = codes "Decode"
-cause_word Invalid = codes "Invalid"
-cause_word OutOfMemory = codes "OutOfMemory"
+abbrev pub cause_word : VerifyError → List ℕ
+cause_word causes.Decode = codes "Decode"
+cause_word causes.MissingTsig = codes "MissingTsig"
+cause_word causes.TsigWrongKey = codes "TsigWrongKey"
+cause_word causes.TruncatedMac = codes "TruncatedMac"
+cause_word causes.HmacInvalid = codes "HmacInvalid"
+cause_word causes.Outdated = codes "Outdated"
+cause_word causes.NotAResponse = codes "NotAResponse"
+cause_word causes.OutOfMemory = codes "OutOfMemory"
 
-abbrev pub refused_text : ℕ → FirstError → List ℕ
+abbrev pub refused_text : ℕ → VerifyError → List ℕ
 refused_text number cause = codes "answer " ++ decimal number ++ codes " " ++ cause_word cause ++ codes "\n"
 
 -- the section of the message that a set stands in: answers, authorities, additionals
-abbrev pub section_word : ℕ → List ℕ
-section_word section = if section == 0 then codes "an" else if section == 1 then codes "ns" else codes "ar"
+abbrev pub section_word : Section → List ℕ
+section_word sections.Answer = codes "an"
+section_word sections.Authority = codes "ns"
+section_word sections.Additional = codes "ar"
 
--- a set of an answer: section, owner, class, type and mark, which is the same for each set as yet
-abbrev pub set_text : FirstSet → List ℕ
+-- a set of an answer: section, owner, class, type and mark
+abbrev pub set_text : SetProof → List ℕ
 set_text set = section_word set.section ++ codes " " ++ name_text set.owner ++ codes " " ++ class_text set.dns_class
-    ++ codes " " ++ type_text set.rtype ++ codes " Indeterminate\n"
+    ++ codes " " ++ type_text set.rtype ++ codes " " ++ proof_text set.proof ++ codes "\n"
 
-abbrev pub fault_text : List ℕ
-fault_text = codes "fault\n"
+-- why a line of a script is faulty
+abbrev pub reason_word : Reason → List ℕ
+reason_word reasons.Text = codes "text"
+reason_word reasons.Word = codes "word"
+reason_word reasons.Order = codes "order"
+reason_word reasons.Anchor = codes "anchor"
+reason_word reasons.Key = codes "key"
+reason_word reasons.Request = codes "request"
+reason_word reasons.Answer = codes "answer"
+reason_word reasons.End = codes "end"
+
+-- the first faulty line, numbered from 1
+abbrev pub fault_text : ℕ → Reason → List ℕ
+fault_text line reason = codes "fault " ++ decimal line ++ codes " " ++ reason_word reason ++ codes "\n"

@@ -1,7 +1,8 @@
-//! The program `dnscheck`: it reads a script with a key, a request and a signed answer, signs the request and checks
-//! the answer.
+//! The program `dnscheck`: it reads a script with trusted entries, a key, a request and signed answers, signs the request
+//! and checks the answers, one behind the other.
 #![tactic(auto)]
 
+mod anchor;
 mod command_line;
 mod error;
 pub mod run;

@@ -1,20 +1,43 @@
-//! A script: who signs, a request and an answer, each in a line of its own.
+//! A script: who signs, a request, and answers to it, each in a line of its own.
 
-ghost use Rattle.std.specs.Prelude.{◌≡◌, ◌^◌, ◌∷◌, [], MatchOption};
+ghost use Rattle.std.specs.Prelude.{◌≡◌, ◌^◌, ◌∷◌, [], Some, IsSome, IfOk};
+ghost use Rattle.std.specs.Option.{option_map};
+ghost use Rattle.std.specs.Str.{IsAscii};
 ghost use Rattle.dns_text.specs.Words.{words};
-ghost use Rattle.dns_wire.specs.Reading.{Gives, GivesUnless};
-ghost use Rattle.dnscheck.specs.Script.{content_lines, after_keyword, spelled_name, number_in, octets_in};
-ghost use Rattle.dnscheck.specs.Script.{key_line, request_line, answer_line, script_of};
+ghost use Rattle.dns_wire.specs.Reading.{GivesUnless};
+ghost use Rattle.sec_sigdata.specs.TsigAlgorithms.{algorithm_with};
+ghost use Rattle.sec_tsig.specs.Requests.{signed_request};
+ghost use Rattle.dnscheck.specs.Script.{hash_named, key_words, request_words, answer_words};
+ghost use Rattle.dnscheck.specs.Script.{Adds, nothing_said, add_anchor, add_key, add_request, add_answer, add_line, finished, script_of};
 
-use crate::error::ScriptError;
+use crate::anchor::anchor_entries;
+use crate::error::{LineError, Reason, ScriptError};
 use dns_names::Name;
 use dns_text::{
     decode_hex, four_words, is_skipped, is_text, number_below, split_line, split_word, two_words,
     without_return,
 };
-use sec_tsig::{FirstSigner, FirstVerifier};
+use dns_wire::OutOfMemory;
+use sec_anchor::Entry;
+use sec_sigdata::TsigAlgorithm;
+use sec_tsig::{TSigVerifier, TSigner, append_tsig};
 use std::alloc::Global;
 use std::marker::Model;
+
+/// A signed request, and what checks the answers to it.
+#[derive(Drop)]
+pub(crate) struct SignedRequest {
+    pub(crate) octets: Vec<u8>,
+    pub(crate) verifier: TSigVerifier,
+}
+
+impl Model for SignedRequest {
+    ghost use Rattle.dnscheck.specs.Script.{Signed};
+
+    ghost Value = { Signed };
+
+    ghost view = { λ s. (s.octets.items, s.verifier) };
+}
 
 /// An answer, and the moment at which it is checked.
 #[derive(Drop)]
@@ -31,140 +54,254 @@ impl Model for Answer {
     ghost view = { λ s. record { moment = s.moment; octets = s.octets.items } };
 }
 
-/// A script whose request is signed.
+/// A script that has its request.
 #[derive(Drop)]
 pub(crate) struct Script {
-    pub(crate) signed_request: Vec<u8>,
-    pub(crate) verifier: FirstVerifier,
-    pub(crate) answer: Answer,
+    pub(crate) entries: Vec<Entry>,
+    pub(crate) request: SignedRequest,
+    pub(crate) answers: Vec<Answer>,
 }
 
 impl Model for Script {
-    ghost use Rattle.std.specs.Prelude.{◌∷◌, []};
+    ghost use Rattle.std.specs.Prelude.{map};
+    ghost use Rattle.sec_anchor.specs.Entries.{entry_data};
     ghost use Rattle.dnscheck.specs.Script.{Script as script};
 
     ghost Value = { script };
 
     ghost view = { λ s. record {
-      signed_request = s.signed_request.items;
-      chain = s.verifier;
-      answers = s.answer ∷ [];
+      entries = map entry_data s.entries.items;
+      request = s.request;
+      answers = s.answers.items;
     } };
 }
 
-/// The first line that says something, and what stands behind it.
-fn next_content_line(octets: &[u8]) -> Option<(&[u8], &[u8])>
-    ensures { MatchOption result (content_lines octets.now ≡ [])
-        (λ found. content_lines octets.now ≡ found.0.now ∷ content_lines found.1.now) }
+/// What the lines so far say.
+#[derive(Drop)]
+struct ScriptSoFar {
+    entries: Vec<Entry>,
+    signer: Option<TSigner>,
+    request: Option<SignedRequest>,
+    answers: Vec<Answer>,
+}
+
+impl Model for ScriptSoFar {
+    ghost use Rattle.std.specs.Prelude.{map};
+    ghost use Rattle.sec_anchor.specs.Entries.{entry_data};
+    ghost use Rattle.dnscheck.specs.Script.{ScriptSoFar as script_so_far};
+
+    ghost Value = { script_so_far };
+
+    ghost view = { λ s. record {
+      entries = map entry_data s.entries.items;
+      signer = s.signer;
+      request = s.request;
+      answers = s.answers.items;
+    } };
+}
+
+/// The algorithm that a word names.
+fn algorithm_named(word: &[u8]) -> Option<TsigAlgorithm>
+    ensures { result ≡ option_map algorithm_with (hash_named word.now) }
 {
-    let mut rest = octets;
-    'lines: while !rest.is_empty() {
-        let (line, after) = split_line(rest);
-        let line = without_return(line);
-        if !is_skipped(line) {
-            return Some((line, after));
-        }
-        rest = after;
+    if word == b"hmac-sha256".as_slice() {
+        Some(TsigAlgorithm::HmacSha256)
+    } else if word == b"hmac-sha384".as_slice() {
+        Some(TsigAlgorithm::HmacSha384)
+    } else if word == b"hmac-sha512".as_slice() {
+        Some(TsigAlgorithm::HmacSha512)
+    } else {
+        None
     }
-    None
 }
 
-/// What stands behind the keyword of a line.
-fn after_keyword<'a>(keyword: &[u8], line: &'a [u8]) -> Result<&'a [u8], ScriptError>
-    ensures { Gives (λ rest. words rest.now) result (after_keyword keyword.now line.now) }
+/// Who signs, of the words `ALGORITHM NAME FUDGE HEX`.
+fn key_words(alloc: Global, rest: &[u8]) -> Result<TSigner, LineError>
+    ensures { GivesUnless LineError.OutOfMemory (λ signer. signer) result (key_words (words rest.now)) }
 {
-    if !is_text(line) {
-        return Err(ScriptError::Fault);
+    let fault = LineError::Fault(Reason::Key);
+    let (algorithm, name, fudge, key) = four_words(rest).ok_or(fault)?;
+    let algorithm = algorithm_named(algorithm).ok_or(fault)?;
+    let name = Name::from_ascii_octets(name).ok().ok_or(fault)?;
+    let fudge = number_below(1 << 16, fudge).ok_or(fault)?;
+    let key = decode_hex(alloc, key)?.ok_or(fault)?;
+    match TSigner::new(key, algorithm, name, fudge as u16) {
+        Ok(signer) => Ok(signer),
+        Err(_) => Err(fault),
     }
-    match split_word(line) {
-        Some((word, rest)) if word == keyword => Ok(rest),
-        _ => Err(ScriptError::Fault),
+}
+
+/// A request that the signer can sign, signed.
+#[tactic(auto, using(crate::proofs::RequestLength::request_has_header))]
+fn sign_request(
+    signer: &TSigner,
+    mut octets: Vec<u8>,
+    time: u64,
+) -> Result<SignedRequest, OutOfMemory>
+    requires { IsSome (signed_request signer.now time octets.items) }
+    ensures { IfOk result (λ signed. signed_request signer.now time octets.items ≡ Some signed) }
+{
+    let Ok((record, verifier)) = signer.sign_octets(&octets, time) else {
+        return Err(OutOfMemory);
+    };
+    match append_tsig(&mut octets, &record) {
+        Ok(()) => Ok(SignedRequest { octets, verifier }),
+        Err(_) => Err(OutOfMemory),
     }
 }
 
-/// The name that a word spells.
-fn spelled_name(word: &[u8]) -> Result<Name, ScriptError>
-    ensures { result ≡ spelled_name word.now }
+/// The signed request of the words `TIME HEX`.
+fn request_words(alloc: Global, signer: &TSigner, rest: &[u8]) -> Result<SignedRequest, LineError>
+    ensures { GivesUnless LineError.OutOfMemory (λ request. request) result (request_words signer.now (words rest.now)) }
 {
-    Name::from_ascii_octets(word).ok().ok_or(ScriptError::Fault)
-}
-
-/// The number below `limit` that a word writes.
-fn number_in(limit: u64, word: &[u8]) -> Result<u64, ScriptError>
-    ensures { result ≡ number_in limit word.now }
-{
-    number_below(limit, word).ok_or(ScriptError::Fault)
-}
-
-/// The octets that a word writes.
-fn octets_in(alloc: Global, word: &[u8]) -> Result<Vec<u8>, ScriptError>
-    ensures { GivesUnless ScriptError.OutOfMemory (λ octets. octets.items) result (octets_in word.now) }
-{
-    decode_hex(alloc, word)?.ok_or(ScriptError::Fault)
-}
-
-/// Who signs, of the line `key ALGORITHM NAME FUDGE HEX`.
-fn key_line(alloc: Global, line: &[u8]) -> Result<FirstSigner, ScriptError>
-    ensures { GivesUnless ScriptError.OutOfMemory (λ signer. signer) result (key_line line.now) }
-{
-    let rest = after_keyword(b"key", line)?;
-    let (algorithm, name, fudge, key) = four_words(rest).ok_or(ScriptError::Fault)?;
-    if algorithm != b"hmac-sha256".as_slice() {
-        return Err(ScriptError::Fault);
+    let fault = LineError::Fault(Reason::Request);
+    let (time, octets) = two_words(rest).ok_or(fault)?;
+    let time = number_below(1 << 48, time).ok_or(fault)?;
+    let octets = decode_hex(alloc, octets)?.ok_or(fault)?;
+    if !signer.can_sign_request(&octets) {
+        return Err(fault);
     }
-    let name = spelled_name(name)?;
-    let fudge = number_in(1 << 16, fudge)?;
-    let key = octets_in(alloc, key)?;
-    Ok(FirstSigner::new(key, name, fudge as u16))
+    Ok(sign_request(signer, octets, time)?)
 }
 
-/// The signed request and the verifier of its answers, of the line `request TIME HEX`.
-fn request_line(
-    alloc: Global,
-    signer: &FirstSigner,
-    line: &[u8],
-) -> Result<(Vec<u8>, FirstVerifier), ScriptError>
-    ensures { GivesUnless ScriptError.OutOfMemory (λ signed. (signed.0.items, signed.1)) result
-        (request_line signer.now line.now) }
+/// The answer of the words `MOMENT HEX`.
+fn answer_words(alloc: Global, rest: &[u8]) -> Result<Answer, LineError>
+    ensures { GivesUnless LineError.OutOfMemory (λ answer. answer) result (answer_words (words rest.now)) }
 {
-    let rest = after_keyword(b"request", line)?;
-    let (time, octets) = two_words(rest).ok_or(ScriptError::Fault)?;
-    let time = number_in(1 << 48, time)?;
-    let octets = octets_in(alloc, octets)?;
-    Ok(signer.sign_request(alloc, &octets, time)?)
-}
-
-/// The answer of the line `answer MOMENT HEX`.
-fn answer_line(alloc: Global, line: &[u8]) -> Result<Answer, ScriptError>
-    ensures { GivesUnless ScriptError.OutOfMemory (λ answer. answer) result (answer_line line.now) }
-{
-    let rest = after_keyword(b"answer", line)?;
-    let (moment, octets) = two_words(rest).ok_or(ScriptError::Fault)?;
-    let moment = number_in(1 << 32, moment)?;
-    let octets = octets_in(alloc, octets)?;
+    let fault = LineError::Fault(Reason::Answer);
+    let (moment, octets) = two_words(rest).ok_or(fault)?;
+    let moment = number_below(1 << 32, moment).ok_or(fault)?;
+    let octets = decode_hex(alloc, octets)?.ok_or(fault)?;
     Ok(Answer {
         moment: moment as u32,
         octets,
     })
 }
 
+impl ScriptSoFar {
+    fn new(alloc: Global) -> ScriptSoFar
+        ensures { result ≡ nothing_said }
+    {
+        ScriptSoFar {
+            entries: Vec::new(alloc),
+            signer: None,
+            request: None,
+            answers: Vec::new(alloc),
+        }
+    }
+
+    fn add_anchor(&mut self, alloc: Global, text: &[u8]) -> Result<(), LineError>
+        requires { IsAscii text.now }
+        ensures { Adds result self.new (add_anchor self.old text.now) }
+    {
+        if self.signer.is_some() {
+            return Err(LineError::Fault(Reason::Order));
+        }
+        let mut found = anchor_entries(alloc, text)?;
+        self.entries.append(&mut found)?;
+        Ok(())
+    }
+
+    fn add_key(&mut self, alloc: Global, rest: &[u8]) -> Result<(), LineError>
+        ensures { Adds result self.new (add_key self.old (words rest.now)) }
+    {
+        if self.signer.is_some() {
+            return Err(LineError::Fault(Reason::Order));
+        }
+        let signer = key_words(alloc, rest)?;
+        self.signer = Some(signer);
+        Ok(())
+    }
+
+    fn add_request(&mut self, alloc: Global, rest: &[u8]) -> Result<(), LineError>
+        ensures { Adds result self.new (add_request self.old (words rest.now)) }
+    {
+        let Some(signer) = &self.signer else {
+            return Err(LineError::Fault(Reason::Order));
+        };
+        if self.request.is_some() {
+            return Err(LineError::Fault(Reason::Order));
+        }
+        let request = request_words(alloc, signer, rest)?;
+        self.request = Some(request);
+        Ok(())
+    }
+
+    fn add_answer(&mut self, alloc: Global, rest: &[u8]) -> Result<(), LineError>
+        ensures { Adds result self.new (add_answer self.old (words rest.now)) }
+    {
+        if self.request.is_none() {
+            return Err(LineError::Fault(Reason::Order));
+        }
+        let answer = answer_words(alloc, rest)?;
+        self.answers.push(answer)?;
+        Ok(())
+    }
+
+    /// Adds what one more line says, or says why that is faulty.
+    fn add_line(&mut self, alloc: Global, line: &[u8]) -> Result<(), LineError>
+        ensures { Adds result self.new (add_line self.old line.now) }
+    {
+        if is_skipped(line) {
+            return Ok(());
+        }
+        if !is_text(line) {
+            return Err(LineError::Fault(Reason::Text));
+        }
+        let Some((word, rest)) = split_word(line) else {
+            return Err(LineError::Fault(Reason::Word));
+        };
+        if word == b"anchor".as_slice() {
+            self.add_anchor(alloc, rest)
+        } else if word == b"key".as_slice() {
+            self.add_key(alloc, rest)
+        } else if word == b"request".as_slice() {
+            self.add_request(alloc, rest)
+        } else if word == b"answer".as_slice() {
+            self.add_answer(alloc, rest)
+        } else {
+            Err(LineError::Fault(Reason::Word))
+        }
+    }
+
+    /// The script, whose end is the line with this number.
+    fn finish(self, line: u64) -> Result<Script, ScriptError>
+        ensures { GivesUnless ScriptError.OutOfMemory (λ script. script) result (finished line self) }
+    {
+        let ScriptSoFar {
+            entries,
+            signer: _,
+            request,
+            answers,
+        } = self;
+        match request {
+            Some(request) => Ok(Script {
+                entries,
+                request,
+                answers,
+            }),
+            None => Err(ScriptError::Fault {
+                line,
+                reason: Reason::End,
+            }),
+        }
+    }
+}
+
 /// The script that octets are.
-#[tactic(auto, unfolding(crate::specs::Script::script_of))]
 pub(crate) fn read_script(alloc: Global, octets: &[u8]) -> Result<Script, ScriptError>
     ensures { GivesUnless ScriptError.OutOfMemory (λ script. script) result (script_of octets.now) }
 {
-    let (key, rest) = next_content_line(octets).ok_or(ScriptError::Fault)?;
-    let (request, rest) = next_content_line(rest).ok_or(ScriptError::Fault)?;
-    let (answer, rest) = next_content_line(rest).ok_or(ScriptError::Fault)?;
-    if next_content_line(rest).is_some() {
-        return Err(ScriptError::Fault);
+    let mut script = ScriptSoFar::new(alloc);
+    let mut rest = octets;
+    let mut number = 1u64;
+    'lines: while !rest.is_empty() {
+        let (line, after) = split_line(rest);
+        if let Err(error) = script.add_line(alloc, without_return(line)) {
+            return Err(error.numbered(number));
+        }
+        rest = after;
+        number += 1;
     }
-    let signer = key_line(alloc, key)?;
-    let (signed_request, verifier) = request_line(alloc, &signer, request)?;
-    let answer = answer_line(alloc, answer)?;
-    Ok(Script {
-        signed_request,
-        verifier,
-        answer,
-    })
+    script.finish(number)
 }

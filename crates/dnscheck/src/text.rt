@@ -5,9 +5,11 @@ ghost use Rattle.std.specs.List.{flat_map};
 ghost use Rattle.std.specs.String.{string_bytes};
 ghost use Rattle.dnscheck.specs.Text.{request_text, accepted_text, refused_text, set_text, fault_text, section_word, cause_word};
 
+use crate::error::Reason;
 use dns_text::LowerHex;
 use dns_wire::OutOfMemory;
-use sec_tsig::{FirstError, FirstSet};
+use sec_check::{Section, SetProof};
+use sec_tsig::VerifyError;
 
 /// `request HEX`
 pub(crate) fn push_request(text: &mut String, octets: &[u8]) -> Result<(), OutOfMemory>
@@ -30,7 +32,7 @@ pub(crate) fn push_accepted(text: &mut String, number: u64, sets: usize) -> Resu
 pub(crate) fn push_refused(
     text: &mut String,
     number: u64,
-    cause: FirstError,
+    cause: VerifyError,
 ) -> Result<(), OutOfMemory>
     ensures { OnOk result (string_bytes text.new ≡ string_bytes text.old ++ refused_text number cause) }
 {
@@ -40,19 +42,21 @@ pub(crate) fn push_refused(
 }
 
 /// `SECTION OWNER CLASS TYPE PROOF`
-pub(crate) fn push_set(text: &mut String, set: &FirstSet) -> Result<(), OutOfMemory>
+pub(crate) fn push_set(text: &mut String, set: &SetProof) -> Result<(), OutOfMemory>
     ensures { OnOk result (string_bytes text.new ≡ string_bytes text.old ++ set_text set.now) }
 {
     let section = section_word(set.section);
     let owner = set.owner;
     let dns_class = set.dns_class;
     let rtype = set.rtype;
-    writeln!(text, "{section} {owner} {dns_class} {rtype} Indeterminate")?;
+    let proof = set.proof;
+    write!(text, "{section} {owner} {dns_class} ")?;
+    writeln!(text, "{rtype} {proof}")?;
     Ok(())
 }
 
 /// A line for each set.
-pub(crate) fn push_sets(text: &mut String, sets: &[FirstSet]) -> Result<(), OutOfMemory>
+pub(crate) fn push_sets(text: &mut String, sets: &[SetProof]) -> Result<(), OutOfMemory>
     ensures { OnOk result (string_bytes text.new ≡ string_bytes text.old ++ flat_map set_text sets.now) }
 {
     'sets: for set in sets {
@@ -61,30 +65,35 @@ pub(crate) fn push_sets(text: &mut String, sets: &[FirstSet]) -> Result<(), OutO
     Ok(())
 }
 
-/// `fault`
-pub(crate) fn push_fault(text: &mut String) -> Result<(), OutOfMemory>
-    ensures { OnOk result (string_bytes text.new ≡ string_bytes text.old ++ fault_text) }
+/// `fault LINE REASON`
+pub(crate) fn push_fault(text: &mut String, line: u64, reason: Reason) -> Result<(), OutOfMemory>
+    ensures { OnOk result (string_bytes text.new ≡ string_bytes text.old ++ fault_text line reason) }
 {
-    writeln!(text, "fault")?;
+    writeln!(text, "fault {line} {reason}")?;
     Ok(())
 }
 
-fn section_word(section: u8) -> &'static str
+fn section_word(section: Section) -> &'static str
     ensures { result.now ≡ section_word section }
 {
     match section {
-        0 => "an",
-        1 => "ns",
-        _ => "ar",
+        Section::Answer => "an",
+        Section::Authority => "ns",
+        Section::Additional => "ar",
     }
 }
 
-fn cause_word(cause: FirstError) -> &'static str
+fn cause_word(cause: VerifyError) -> &'static str
     ensures { result.now ≡ cause_word cause }
 {
     match cause {
-        FirstError::Decode => "Decode",
-        FirstError::Invalid => "Invalid",
-        FirstError::OutOfMemory => "OutOfMemory",
+        VerifyError::Decode => "Decode",
+        VerifyError::MissingTsig => "MissingTsig",
+        VerifyError::TsigWrongKey => "TsigWrongKey",
+        VerifyError::TruncatedMac => "TruncatedMac",
+        VerifyError::HmacInvalid => "HmacInvalid",
+        VerifyError::Outdated => "Outdated",
+        VerifyError::NotAResponse => "NotAResponse",
+        VerifyError::OutOfMemory => "OutOfMemory",
     }
 }
