@@ -1,5 +1,5 @@
 -- What the octets of a script say, line by line.
-use Rattle.std.specs.Prelude.{◌≡◌, ◌⊎◌, ℕ, ◌+◌, ◌^◌, List, [], ◌∷◌, ◌++◌, length, codes, Option, Some, None, is_some}
+use Rattle.std.specs.Prelude.{◌≡◌, ◌⊎◌, ℕ, ◌+◌, ◌^◌, List, [], ◌∷◌, ◌++◌, length, codes, Option, Some, None, is_some, IsSome}
 use Rattle.std.specs.Prelude.{if◌then◌else◌, Result, Ok, Err}
 use Rattle.std.specs.List.{list_all}
 use Rattle.std.specs.Option.{ok_or}
@@ -13,7 +13,6 @@ use Rattle.sec_digest.specs.declared.hmac.HmacHash.{HmacHash}
 use Rattle.sec_digest.specs.declared.hmac.HmacHash.TheVariants.{Sha256, Sha384, Sha512}
 use Rattle.sec_tsig.specs.Signers.{Signer}
 use Rattle.sec_tsig.specs.Requests.{signed_request}
-use Rattle.sec_tsig.specs.Verdict.{Chain}
 use Rattle.sec_anchor.specs.declared.parse_error.ParseError.{ParseError}
 use Rattle.sec_anchor.specs.Entries.{EntryData, entries_of}
 use Rattle.dnscheck.specs.declared.error.LineError.{LineError}
@@ -25,26 +24,28 @@ use Rattle.dnscheck.specs.declared.error.ScriptError.TheVariants as errors
 
 -- ---- what a script says
 
--- a signed request, and the chain before the first answer to it
-abbrev pub Signed : Type 0
-Signed = List ℕ × Chain
+-- a request, and the time at which it is signed
+pub record Request : Type 0 where
+  pub octets : List ℕ
+  pub time : ℕ
 
 -- an answer, and the moment at which it is checked
 pub record Answer : Type 0 where
   pub moment : ℕ
   pub octets : List ℕ
 
--- the trusted entries, the signed request, and the answers to it
+-- the trusted entries, who signs, the request, and the answers to it
 pub record Script : Type 0 where
   pub entries : List EntryData
-  pub request : Signed
+  pub signer : Signer
+  pub request : Request
   pub answers : List Answer
 
--- the same as far as the lines so far say it, and who signs
+-- the same as far as the lines so far say it
 pub record ScriptSoFar : Type 0 where
   pub entries : List EntryData
   pub signer : Option Signer
-  pub request : Option Signed
+  pub request : Option Request
   pub answers : List Answer
 
 -- ---- what stands behind the first word of a line
@@ -75,13 +76,18 @@ key_words others = do
   key ← ok_or (decode_hex w.3) (Fault reasons.Key)
   Ok (record { key = key; algorithm = algorithm; name = name; fudge = fudge })
 
--- `TIME HEX`: a request, signed; one that can't be signed is faulty
-abbrev pub request_words : Signer → List (List ℕ) → Result Signed LineError
+-- whether the signer can sign the request
+abbrev pub CanBeSigned : Signer → Request → Type 0
+CanBeSigned signer request = IsSome (signed_request signer request.time request.octets)
+
+-- `TIME HEX`: a request that the signer can sign
+abbrev pub request_words : Signer → List (List ℕ) → Result Request LineError
 request_words signer others = do
   w ← ok_or (two_words others) (Fault reasons.Request)
   time ← ok_or (number_below (2 ^ 48) w.0) (Fault reasons.Request)
   octets ← ok_or (decode_hex w.1) (Fault reasons.Request)
-  ok_or (signed_request signer time octets) (Fault reasons.Request)
+  _ ← ok_or (signed_request signer time octets) (Fault reasons.Request)
+  Ok (record { octets = octets; time = time })
 
 -- `MOMENT HEX`
 abbrev pub answer_words : List (List ℕ) → Result Answer LineError
@@ -167,12 +173,13 @@ abbrev pub nothing_said : ScriptSoFar
 nothing_said = record { entries = []; signer = None; request = None; answers = [] }
 
 -- a script that has its request, or the line behind the last as one that is missing
-abbrev pub ended : ℕ → List EntryData → Option Signed → List Answer → Result Script ScriptError
-ended number entries (Some request) answers = Ok (record { entries = entries; request = request; answers = answers })
-ended number entries None answers = Err (errors.Fault number reasons.End)
+abbrev pub ended : ℕ → List EntryData → Option Signer → Option Request → List Answer → Result Script ScriptError
+ended number entries (Some signer) (Some request) answers =
+    Ok (record { entries = entries; signer = signer; request = request; answers = answers })
+ended number entries _ _ answers = Err (errors.Fault number reasons.End)
 
 abbrev pub finished : ℕ → ScriptSoFar → Result Script ScriptError
-finished number script = ended number script.entries script.request script.answers
+finished number script = ended number script.entries script.signer script.request script.answers
 
 -- The script that octets are, or its first faulty line, numbered from 1.
 unfoldable pub script_of : List ℕ → Result Script ScriptError

@@ -1,5 +1,5 @@
 -- The text and the status of a session.
-use Rattle.std.specs.Prelude.{◌≡◌, ℕ, ◌<◌, ◌≤◌, List, [], ◌∷◌, ◌++◌, length, codes, if◌then◌else◌, Option}
+use Rattle.std.specs.Prelude.{◌≡◌, ℕ, ◌<◌, ◌≤◌, List, [], ◌∷◌, ◌++◌, length, codes, if◌then◌else◌, Option, Some, None}
 use Rattle.std.specs.Prelude.{Result, Ok, Err, is_ok}
 use Rattle.std.specs.declared.alloc.Global.{Global}
 use Rattle.std.specs.List.{flat_map, list_all, enumerate_from}
@@ -17,6 +17,7 @@ use Rattle.dns_grammar.specs.Messages.{Message, message_at}
 use Rattle.dns_rdata.specs.RDataTable.{rdata_table}
 use Rattle.sec_tsig.specs.declared.verify_error.VerifyError.{VerifyError}
 use Rattle.sec_tsig.specs.Verdict.{Chain, verdict}
+use Rattle.sec_tsig.specs.Requests.{signed_request}
 use Rattle.sec_check.specs.declared.set_proof.SetProof.{SetProof}
 use Rattle.sec_check.specs.RecordSets.{message_sets}
 use Rattle.dnscheck.specs.declared.error.ScriptError.{ScriptError}
@@ -56,14 +57,28 @@ answer_text number (Err cause) = refused_text number cause
 abbrev pub answers_text : ℕ → List Judged → List ℕ
 answers_text number found = flat_map (λ numbered. answer_text numbered.0 numbered.1) (enumerate_from number found)
 
+-- the signed request and the chain that it begins, where there is one
+abbrev pub signed_text : List Answer → Option (List ℕ × Chain) → List ℕ
+signed_text answers (Some begun) = request_text begun.0 ++ answers_text 1 (verdicts begun.1 answers)
+signed_text answers None = []
+
+-- whether all answers are accepted
+abbrev pub signed_status : List Answer → Option (List ℕ × Chain) → Status
+signed_status answers (Some begun) = if list_all is_ok (verdicts begun.1 answers) then Accepted else Refused
+signed_status answers None = ScriptFault
+
+-- The request of a script, signed, and the chain that it begins. There is one, since a request line that can't be signed
+-- is faulty.
+unfoldable pub signed : Script → Option (List ℕ × Chain)
+signed script = signed_request script.signer script.request.time script.request.octets
+
 abbrev pub script_text : Result Script ScriptError → List ℕ
-script_text (Ok script) = request_text script.request.0 ++ answers_text 1 (verdicts script.request.1 script.answers)
+script_text (Ok script) = signed_text script.answers (signed script)
 script_text (Err (errors.Fault line reason)) = fault_text line reason
 script_text (Err errors.OutOfMemory) = []
 
--- whether all answers are accepted
 abbrev pub script_status : Result Script ScriptError → Status
-script_status (Ok script) = if list_all is_ok (verdicts script.request.1 script.answers) then Accepted else Refused
+script_status (Ok script) = signed_status script.answers (signed script)
 script_status (Err _) = ScriptFault
 
 -- the text that the octets of a script make

@@ -1,12 +1,11 @@
 //! A script: who signs, a request, and answers to it, each in a line of its own.
 
-ghost use Rattle.std.specs.Prelude.{◌≡◌, ◌^◌, ◌∷◌, [], Some, IsSome, IfOk};
+ghost use Rattle.std.specs.Prelude.{◌≡◌, ◌^◌, ◌∷◌, []};
 ghost use Rattle.std.specs.Option.{option_map};
 ghost use Rattle.std.specs.Str.{IsAscii};
 ghost use Rattle.dns_text.specs.Words.{words};
 ghost use Rattle.dns_wire.specs.Reading.{GivesUnless};
 ghost use Rattle.sec_sigdata.specs.TsigAlgorithms.{algorithm_with};
-ghost use Rattle.sec_tsig.specs.Requests.{signed_request};
 ghost use Rattle.dnscheck.specs.Script.{hash_named, key_words, request_words, answer_words};
 ghost use Rattle.dnscheck.specs.Script.{Adds, nothing_said, add_anchor, add_key, add_request, add_answer, add_line, finished, script_of};
 
@@ -17,26 +16,25 @@ use dns_text::{
     decode_hex, four_words, is_skipped, is_text, number_below, split_line, split_word, two_words,
     without_return,
 };
-use dns_wire::OutOfMemory;
 use sec_anchor::Entry;
 use sec_sigdata::TsigAlgorithm;
-use sec_tsig::{TSigVerifier, TSigner, append_tsig};
+use sec_tsig::TSigner;
 use std::alloc::Global;
 use std::marker::Model;
 
-/// A signed request, and what checks the answers to it.
+/// A request, and the time at which it is signed.
 #[derive(Drop)]
-pub(crate) struct SignedRequest {
+pub(crate) struct Request {
     pub(crate) octets: Vec<u8>,
-    pub(crate) verifier: TSigVerifier,
+    pub(crate) time: u64,
 }
 
-impl Model for SignedRequest {
-    ghost use Rattle.dnscheck.specs.Script.{Signed};
+impl Model for Request {
+    ghost use Rattle.dnscheck.specs.Script.{Request as request};
 
-    ghost Value = { Signed };
+    ghost Value = { request };
 
-    ghost view = { λ s. (s.octets.items, s.verifier) };
+    ghost view = { λ s. record { octets = s.octets.items; time = s.time } };
 }
 
 /// An answer, and the moment at which it is checked.
@@ -58,7 +56,8 @@ impl Model for Answer {
 #[derive(Drop)]
 pub(crate) struct Script {
     pub(crate) entries: Vec<Entry>,
-    pub(crate) request: SignedRequest,
+    pub(crate) signer: TSigner,
+    pub(crate) request: Request,
     pub(crate) answers: Vec<Answer>,
 }
 
@@ -71,6 +70,7 @@ impl Model for Script {
 
     ghost view = { λ s. record {
       entries = map entry_data s.entries.items;
+      signer = s.signer;
       request = s.request;
       answers = s.answers.items;
     } };
@@ -81,7 +81,7 @@ impl Model for Script {
 struct ScriptSoFar {
     entries: Vec<Entry>,
     signer: Option<TSigner>,
-    request: Option<SignedRequest>,
+    request: Option<Request>,
     answers: Vec<Answer>,
 }
 
@@ -131,27 +131,8 @@ fn key_words(alloc: Global, rest: &[u8]) -> Result<TSigner, LineError>
     }
 }
 
-/// A request that the signer can sign, signed.
-#[tactic(auto, using(crate::proofs::RequestLength::request_has_header))]
-fn sign_request(
-    signer: &TSigner,
-    mut octets: Vec<u8>,
-    time: u64,
-) -> Result<SignedRequest, OutOfMemory>
-    requires { IsSome (signed_request signer.now time octets.items) }
-    ensures { IfOk result (λ signed. signed_request signer.now time octets.items ≡ Some signed) }
-{
-    let Ok((record, verifier)) = signer.sign_octets(&octets, time) else {
-        return Err(OutOfMemory);
-    };
-    match append_tsig(&mut octets, &record) {
-        Ok(()) => Ok(SignedRequest { octets, verifier }),
-        Err(_) => Err(OutOfMemory),
-    }
-}
-
-/// The signed request of the words `TIME HEX`.
-fn request_words(alloc: Global, signer: &TSigner, rest: &[u8]) -> Result<SignedRequest, LineError>
+/// The request of the words `TIME HEX`, which the signer can sign.
+fn request_words(alloc: Global, signer: &TSigner, rest: &[u8]) -> Result<Request, LineError>
     ensures { GivesUnless LineError.OutOfMemory (λ request. request) result (request_words signer.now (words rest.now)) }
 {
     let fault = LineError::Fault(Reason::Request);
@@ -161,7 +142,7 @@ fn request_words(alloc: Global, signer: &TSigner, rest: &[u8]) -> Result<SignedR
     if !signer.can_sign_request(&octets) {
         return Err(fault);
     }
-    Ok(sign_request(signer, octets, time)?)
+    Ok(Request { octets, time })
 }
 
 /// The answer of the words `MOMENT HEX`.
@@ -270,17 +251,18 @@ impl ScriptSoFar {
     {
         let ScriptSoFar {
             entries,
-            signer: _,
+            signer,
             request,
             answers,
         } = self;
-        match request {
-            Some(request) => Ok(Script {
+        match (signer, request) {
+            (Some(signer), Some(request)) => Ok(Script {
                 entries,
+                signer,
                 request,
                 answers,
             }),
-            None => Err(ScriptError::Fault {
+            _ => Err(ScriptError::Fault {
                 line,
                 reason: Reason::End,
             }),

@@ -1,22 +1,24 @@
 //! The text of a session, and its status.
 
-ghost use Rattle.std.specs.Prelude.{◌≡◌, ℕ, List, ◌++◌, IfOk, Ok, is_ok};
+ghost use Rattle.std.specs.Prelude.{◌≡◌, ℕ, List, ◌++◌, IfOk, IsSome, Ok, Some, is_ok};
 ghost use Rattle.std.specs.List.{list_all};
 ghost use Rattle.std.specs.String.{string_bytes};
 ghost use Rattle.dns_grammar.specs.Messages.{message_at};
 ghost use Rattle.dns_rdata.specs.RDataTable.{rdata_table};
+ghost use Rattle.sec_tsig.specs.Requests.{signed_request};
 ghost use Rattle.sec_tsig.specs.Views.{IsResponseOf};
+ghost use Rattle.dnscheck.specs.Script.{CanBeSigned};
 ghost use Rattle.dnscheck.specs.Session.{answer_text, answers_text, judged, next_chain, sets_read, verdicts};
 ghost use Rattle.dnscheck.specs.Session.{script_text, script_status, session, session_status};
 
 use crate::error::ScriptError;
-use crate::script::{Answer, Script, SignedRequest, read_script};
+use crate::script::{Answer, Request, Script, read_script};
 use crate::text::{push_accepted, push_fault, push_refused, push_request, push_sets};
 use dns_io::Status;
 use dns_message::DnsResponse;
 use dns_wire::OutOfMemory;
 use sec_check::{SetProof, record_sets};
-use sec_tsig::{TSigVerifier, VerifyError};
+use sec_tsig::{TSigVerifier, TSigner, VerifyError, append_tsig};
 use std::alloc::Global;
 
 /// The record sets of a response.
@@ -78,19 +80,43 @@ fn push_answers(
     Ok(accepted)
 }
 
+/// The signed request, and the verifier of the answers to it.
+#[tactic(auto, using(crate::proofs::RequestLength::request_has_header))]
+fn sign_request(
+    signer: &TSigner,
+    mut octets: Vec<u8>,
+    time: u64,
+) -> Result<(Vec<u8>, TSigVerifier), OutOfMemory>
+    requires { IsSome (signed_request signer.now time octets.items) }
+    ensures { IfOk result (λ begun. signed_request signer.now time octets.items
+        ≡ Some (begun.0.items, begun.1)) }
+{
+    let Ok((record, verifier)) = signer.sign_octets(&octets, time) else {
+        return Err(OutOfMemory);
+    };
+    match append_tsig(&mut octets, &record) {
+        Ok(()) => Ok((octets, verifier)),
+        Err(_) => Err(OutOfMemory),
+    }
+}
+
 /// Appends the lines of a script, and says what it comes to.
+#[tactic(auto, unfolding(crate::specs::Session::signed))]
 fn push_script(alloc: Global, text: &mut String, script: Script) -> Result<Status, OutOfMemory>
+    requires { CanBeSigned script.signer script.request }
     ensures text { IfOk result (λ _. string_bytes text.new
         ≡ string_bytes text.old ++ script_text (Ok script)) }
     ensures status { IfOk result (λ status. status ≡ script_status (Ok script)) }
 {
     let Script {
         entries: _,
+        signer,
         request,
         answers,
     } = script;
-    let SignedRequest { octets, verifier } = request;
-    push_request(text, &octets)?;
+    let Request { octets, time } = request;
+    let (signed, verifier) = sign_request(&signer, octets, time)?;
+    push_request(text, &signed)?;
     if push_answers(alloc, text, verifier, &answers)? {
         Ok(Status::Accepted)
     } else {
@@ -99,7 +125,7 @@ fn push_script(alloc: Global, text: &mut String, script: Script) -> Result<Statu
 }
 
 /// The text that octets make, and the status that they come to.
-#[tactic(auto, unfolding(crate::specs::Session::session))]
+#[tactic(auto, unfolding(crate::specs::Session::session), using(crate::proofs::Signable::read_signable))]
 pub(crate) fn session(alloc: Global, octets: &[u8]) -> Result<(String, Status), OutOfMemory>
     ensures text { IfOk result (λ found. string_bytes found.0 ≡ session octets.now) }
     ensures status { IfOk result (λ found. found.1 ≡ session_status octets.now) }
