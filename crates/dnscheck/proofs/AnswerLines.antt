@@ -1,9 +1,9 @@
 -- The answers of a script, one by one.
-use Rattle.std.proofs.Common.{◌≡◌, ℕ, suc, ◌+◌, ◌<◌, ◌≤◌, Bool, true, false, ◌&&◌, List, [], ◌∷◌, ◌++◌, length, drop, get_or}
-use Rattle.std.proofs.Common.{Result, Ok, Err}
+use Rattle.std.proofs.Common.{◌≡◌, ℕ, ◌+◌, ◌<◌, ◌≤◌, Bool, true, false, ◌&&◌, List, [], ◌∷◌, ◌++◌, length, drop, get_or}
+use Rattle.std.proofs.Common.{Result, Ok}
 use Rattle.std.proofs.Common.{is_ok, refl, sym, ap, ◌∙◌, add-one, append_assoc, drop-cons}
 use Rattle.std.proofs.lemmas.List.{drop_all, append-nil}
-use Rattle.std.specs.List.{flat_map, list_all, enumerate_from}
+use Rattle.std.specs.List.{flat_map, list_all}
 use Rattle.dns_wire.specs.declared.error.DecodeError.{DecodeError}
 use Rattle.dns_wire.specs.Reading.{◌>>=◌}
 use Rattle.dns_grammar.specs.Messages.{Message, message_at}

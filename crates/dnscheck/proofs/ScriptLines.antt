@@ -1,5 +1,5 @@
 -- A script, line by line.
-use Rattle.std.proofs.Common.{◌≡◌, ◌⊎◌, inl, inr, ℕ, ◌+◌, ◌<◌, List, [], ◌∷◌, length, Result, Ok, Err, refl, sym, ap, ◌∙◌, add-one, arith}
+use Rattle.std.proofs.Common.{◌≡◌, ◌⊎◌, inl, inr, ℕ, ◌+◌, ◌<◌, List, ◌∷◌, length, Result, Ok, Err, sym, ap, ◌∙◌, add-one, arith}
 use Rattle.std.specs.List.{after_first, position_or_len}
 use Rattle.std.proofs.lemmas.List.{nil_from_length, length-drop}
 use Rattle.dns_text.specs.Words.{is_line_feed, lines, without_return}

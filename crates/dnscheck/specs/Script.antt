@@ -17,7 +17,6 @@ use Rattle.sec_anchor.specs.declared.parse_error.ParseError.{ParseError}
 use Rattle.sec_anchor.specs.Entries.{EntryData, entries_of}
 use Rattle.dnscheck.specs.declared.error.LineError.{LineError}
 use Rattle.dnscheck.specs.declared.error.LineError.TheVariants.{Fault, OutOfMemory}
-use Rattle.dnscheck.specs.declared.error.Reason.{Reason}
 use Rattle.dnscheck.specs.declared.error.Reason.TheVariants as reasons
 use Rattle.dnscheck.specs.declared.error.ScriptError.{ScriptError}
 use Rattle.dnscheck.specs.declared.error.ScriptError.TheVariants as errors

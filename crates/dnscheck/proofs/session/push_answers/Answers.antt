@@ -1,4 +1,4 @@
-use Rattle.std.proofs.Common.{◌≡◌, ◌+◌, ◌≤◌, length, sym, ap, ◌∙◌, arith, rules}
+use Rattle.std.proofs.Common.{sym, arith, rules}
 use Rattle.std.specs.String.{string_bytes}
 use Rattle.dnscheck.proofs.AnswerLines.{written_one, written_all}
 use Rattle.dnscheck.proofs.session.push_answers.Goals as goal
