@@ -96,11 +96,10 @@ fn a_part_has_at_most_65535_entries(rt: HostRuntime) -> Result<(), Fail> {
 /// A message of 400 answers, each of whose owners is a pointer to the owner before.
 fn chained(alloc: Global) -> Result<Vec<u8>, Fail> {
     let mut message = octets(alloc, "123481800001019000000000076578616d706c650000010001")?;
-    let mut target: u16 = 12;
     for i in 0..400u16 {
+        let target = if i == 0 { 12 } else { 9 + 16 * i };
         message.extend_from_slice(&(0xc000 + target).to_be_bytes())?;
         message.extend_from_slice(b"\x00\x01\x00\x01\x00\x00\x0e\x10\x00\x04\xc0\x00\x02\x01")?;
-        target = 25 + 16 * i;
     }
     Ok(message)
 }
