@@ -17,10 +17,12 @@ pub record HasPut {A : Type 0} (written : Bool → A → Result (List ℕ) EmitE
   pub rest : joined (Ok put) (each_octets (written old.canonical_form) (drop i xs))
       ≡ each_octets (written old.canonical_form) xs
 
-joined_again : (x y : List ℕ) (r : Result (List ℕ) EmitError) → joined (Ok x) (joined (Ok y) r) ≡ joined (Ok (x ++ y)) r
-joined_again x y (Ok z) = ap (λ (l : List ℕ). let ok : Result (List ℕ) EmitError = Ok l in ok)
+pub joined_more : (a b c : Result (List ℕ) EmitError) → joined a (joined b c) ≡ joined (joined a b) c
+joined_more (Ok x) (Ok y) (Ok z) = ap (λ (l : List ℕ). let ok : Result (List ℕ) EmitError = Ok l in ok)
     (sym (append_assoc x y z))
-joined_again x y (Err e) = refl
+joined_more (Ok x) (Ok y) (Err e) = refl
+joined_more (Ok x) (Err e) c = refl
+joined_more (Err e) b c = refl
 
 pub joined_nil : (r : Result (List ℕ) EmitError) → joined (Ok []) r ≡ r
 joined_nil (Ok z) = refl
@@ -55,7 +57,7 @@ put_one written xs i d old now new u (Ok y) lt h is w =
       put = h.put ++ y;
       output = w ∙ ap (λ (o : Output). record o { octets = o.octets ++ y }) h.output
           ∙ ap (λ (o : List ℕ). record old { octets = o }) (append_assoc old.octets h.put y);
-      rest = sym (joined_again h.put y (each (drop (i + 1) xs)))
+      rest = sym (joined_more (Ok h.put) (Ok y) (each (drop (i + 1) xs)))
           ∙ ap (λ r. joined (Ok h.put) (joined r (each (drop (i + 1) xs)))) (sym same)
           ∙ ap (joined (Ok h.put)) (sym (next_octets (written old.canonical_form) xs i d lt)) ∙ h.rest;
     }

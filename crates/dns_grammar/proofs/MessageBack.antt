@@ -19,6 +19,7 @@ use Rattle.dns_grammar.specs.Messages.{message_at}
 use Rattle.dns_grammar.specs.MessageWriting.{count_octets, header_octets, query_octets, record_octets}
 use Rattle.dns_grammar.specs.Laws.{IsQuery, IsRecord, IsMessage, unplaced_record, unplaced, read_unplaced}
 use Rattle.dns_grammar.specs.Laws.{WrittenMessageIsRead}
+use Rattle.dns_grammar.proofs.FieldOutLaws.{joined_nil, joined_more}
 use Rattle.dns_grammar.proofs.ReadBack.{ok_octets, joins}
 use Rattle.dns_grammar.proofs.RecordBack.{GoesOn, behind, number_here, name_here, record_goes}
 use Rattle.dns_grammar.proofs.MessageLaws.{its_place, before_less}
@@ -258,17 +259,6 @@ both_all : {A : Type 0} (P : A → Type 0) (xs ys : List A) → AllByRecursion P
     → AllByRecursion P xs × AllByRecursion P ys
 both_all P [] ys h = (tt, h)
 both_all P (x ∷ xs) ys h = let rest = both_all P xs ys h.1 in ((h.0, rest.0), rest.1)
-
-joined_nil : (r : Result (List ℕ) EmitError) → joined (Ok []) r ≡ r
-joined_nil (Ok x) = refl
-joined_nil (Err e) = refl
-
-joined_more : (a b c : Result (List ℕ) EmitError) → joined a (joined b c) ≡ joined (joined a b) c
-joined_more (Ok x) (Ok y) (Ok z) = ap (λ (l : List ℕ). let ok : Result (List ℕ) EmitError = Ok l in ok)
-    (sym (append_assoc x y z))
-joined_more (Ok x) (Ok y) (Err e) = refl
-joined_more (Ok x) (Err e) c = refl
-joined_more (Err e) b c = refl
 
 octets-append : (table : Table) (xs ys : List ResourceRecord)
     → octets_of table (xs ++ ys) ≡ joined (octets_of table xs) (octets_of table ys)

@@ -63,7 +63,7 @@ octets_len n m p e x q s =
 octets_are : (n : ℕ) (m : List ℕ) (p e : ℕ) (x : List ℕ) (q : ℕ) → AreOctets m → OctetsAt n m p e x q → AreOctets x
 octets_are n m p e x q octets s = subst AreOctets (sym s.value) (taken n (drop p m) (dropped p m octets))
 
-number_fits : (size : Size) (m : List ℕ) (p e n q : ℕ) → AreOctets m → NumberAt (width size) m p e n q → n < limit size
+pub number_fits : (size : Size) (m : List ℕ) (p e n q : ℕ) → AreOctets m → NumberAt (width size) m p e n q → n < limit size
 number_fits size m p e n q octets s = subst (λ k. k < limit size) (sym s.2)
     (number_below size s.0 (octets_are (byte_len (width size)) m p e s.0 q octets s.1))
 
@@ -99,12 +99,12 @@ strings_write m p e (x ∷ xs) q octets s =
     )
 
 -- what is known of a value that stands somewhere
-record CanWrite (kind : Kind) (v : Value) : Type 0 where
+pub record CanWrite (kind : Kind) (v : Value) : Type 0 where
   pub holds : Holds kind v
   pub octets : List ℕ
   pub written : value_octets false kind v ≡ Ok octets
 
-can_write : (kind : Kind) (m : List ℕ) (p e : ℕ) (v : Value) (q : ℕ) → AreOctets m → ValueAt kind m p e v q
+pub can_write : (kind : Kind) (m : List ℕ) (p e : ℕ) (v : Value) (q : ℕ) → AreOctets m → ValueAt kind m p e v q
     → CanWrite kind v
 can_write (Number size) m p e (Num n) q octets s = record {
   holds = number_fits size m p e n q octets s;

@@ -67,7 +67,7 @@ data_seven table m p len rtype (Some vs) known is s =
     let v = seven m p (p + len) vs (p + len) (subst (λ fs. FieldsAt fs m p (p + len) vs (p + len)) row s.filled) in
     (v.0, ap (λ (y : List Value). Some y) v.1)
 
-signature_is : (rr : ResourceRecord) (tsig : TsigData) → rr.rtype ≡ tsig_type → rr.rdata ≡ Some (tsig_values tsig)
+pub signature_is : (rr : ResourceRecord) (tsig : TsigData) → rr.rtype ≡ tsig_type → rr.rdata ≡ Some (tsig_values tsig)
     → signature_from rr ≡ Some (signature_with rr tsig)
 signature_is rr tsig is values = let same : eqb rr.rtype tsig_type
     ≡ true = eq-eqb rr.rtype tsig_type is in rw (same, values) refl

@@ -1,6 +1,6 @@
 -- A message that was read can be read again, once it is written.
 use Rattle.std.proofs.Common.{◌≡◌, ℕ, ◌+◌, false, List, [], ◌∷◌, ◌++◌, length, map, Option, Some, None, option_map}
-use Rattle.std.proofs.Common.{Result, Ok, Err, refl, sym, ap, ◌∙◌, append_assoc, append-nil}
+use Rattle.std.proofs.Common.{Result, Ok, Err, refl, sym, ap, ◌∙◌, append-nil}
 use Rattle.std.proofs.lemmas.List.{length-map, map-append}
 use Rattle.std.specs.Prelude.{nat_lt, if◌then◌else◌}
 use Rattle.std.specs.List.{AllByRecursion}
@@ -18,8 +18,9 @@ use Rattle.dns_grammar.specs.Laws.{IsQuery, IsRecord, IsMessage, unplaced_record
 use Rattle.dns_grammar.specs.Messages.{Query, ResourceRecord, EachAt, QueryAt, RecordAt, MessageAt, records, message_at}
 use Rattle.dns_grammar.specs.Messages as grammar
 use Rattle.dns_grammar.specs.MessageWriting.{count_octets, header_octets, query_octets, record_octets, message_octets}
-use Rattle.dns_grammar.proofs.FieldOutLaws.{joined_nil}
+use Rattle.dns_grammar.proofs.FieldOutLaws.{joined_nil, joined_more}
 use Rattle.dns_grammar.proofs.MessageBack.{written_message}
+use Rattle.dns_grammar.proofs.ReadAgain.{number_fits}
 use Rattle.dns_rdata.specs.declared.rdata.RData.{RData}
 use Rattle.dns_rdata.specs.RData.{rdata_values}
 use Rattle.dns_rdata.specs.RDataTable.{rdata_table}
@@ -33,7 +34,7 @@ use Rattle.dns_message.specs.MessageWriting.{written_record, written_tsig_record
 use Rattle.dns_message.specs.OwnedMessages.{IsReadRecord, IsReadMessage}
 use Rattle.dns_message.specs.Parts.{Parts, record_view, tsig_record_view, message_parts, parts_of, and_last, whole}
 use Rattle.dns_message.specs.Views.{query_view}
-use Rattle.dns_message.proofs.HeldValues.{number_fits, holds_data}
+use Rattle.dns_message.proofs.HeldValues.{holds_data}
 use Rattle.dns_message.proofs.PartLaws.{parts_unplaced, whole_of_parts}
 
 -- ---- what stands in octets can be written
@@ -86,13 +87,6 @@ is_message m message e octets s = record {
 
 -- ---- octets of lists
 
-joined_more : (a b c : Result (List ℕ) EmitError) → joined (joined a b) c ≡ joined a (joined b c)
-joined_more (Ok x) (Ok y) (Ok z) = ap (λ (l : List ℕ). let ok : Result (List ℕ) EmitError = Ok l in ok)
-    (append_assoc x y z)
-joined_more (Ok x) (Ok y) (Err e) = refl
-joined_more (Ok x) (Err e) c = refl
-joined_more (Err e) b c = refl
-
 joined_none : (a : Result (List ℕ) EmitError) → joined a (Ok []) ≡ a
 joined_none (Ok x) = ap (λ (l : List ℕ). let ok : Result (List ℕ) EmitError = Ok l in ok) (append-nil x)
 joined_none (Err e) = refl
@@ -102,7 +96,7 @@ each-append : {A : Type 0} (written : A → Result (List ℕ) EmitError) (xs ys 
 each-append written [] ys = sym (joined_nil (each_octets written ys))
 each-append written (x ∷ xs) ys =
     ap (joined (written x)) (each-append written xs ys)
-    ∙ sym (joined_more (written x) (each_octets written xs) (each_octets written ys))
+    ∙ joined_more (written x) (each_octets written xs) (each_octets written ys)
 
 each-map : {A B : Type 0} (written : B → Result (List ℕ) EmitError) (f : A → B) (xs : List A)
     → each_octets written (map f xs) ≡ each_octets (λ x. written (f x)) xs

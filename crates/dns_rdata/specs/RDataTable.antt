@@ -1,5 +1,5 @@
--- The fields of each type of record whose data are taken apart. The data of every other type are octets that nothing is
--- known of (RFC 3597 3).
+-- The fields of each type of record whose data are known. Of NULL and OPT that is octets. The data of every type that
+-- isn't here are octets too, of which nothing is known (RFC 3597 3).
 use Rattle.std.specs.Prelude.{List, [], ◌∷◌}
 use Rattle.dns_wire.specs.declared.error.EmitError.TheVariants.{StringTooLong}
 use Rattle.dns_types.specs.TypeNumbers as types

@@ -1,6 +1,6 @@
 -- The entries of an anchor text: DNSKEY records by lines, as in zone files (RFC 1035 5.1, RFC 4034 2.2).
-use Rattle.std.specs.Prelude.{ℕ, List, [], ◌∷◌, ◌++◌, length, Bool, true, false, ◌&&◌, nat_eq, nat_le, if◌then◌else◌}
-use Rattle.std.specs.Prelude.{Option, Some, None, Result, Ok, Err, is_ok}
+use Rattle.std.specs.Prelude.{ℕ, List, [], ◌∷◌, ◌++◌, length, Bool, true, false, nat_eq, if◌then◌else◌}
+use Rattle.std.specs.Prelude.{Option, Some, None, Result, Ok, Err}
 use Rattle.std.specs.List.{onto_first, flat_map}
 use Rattle.dns_text.specs.Words.{space}
 use Rattle.dns_wire.specs.Reading.{◌>>=◌}
@@ -11,7 +11,6 @@ use Rattle.dns_types.specs.Codes.{type_of, class_of}
 use Rattle.dns_lexer.specs.declared.lex_token.LexToken.TheVariants as tokens
 use Rattle.dns_lexer.specs.Tokens.{Item, word, mark, fault, items}
 use Rattle.dns_lexer.specs.Ttls.{ttl_of}
-use Rattle.sec_codes.specs.KeyForms.{key_form}
 use Rattle.sec_keydata.specs.declared.token_error.TokenError.{TokenError}
 use Rattle.sec_keydata.specs.DnsKeys.{DnsKeyData, dnskey_data}
 use Rattle.sec_keydata.specs.Tokens.{token_dnskey}
@@ -36,17 +35,6 @@ entry_data (entries.DNSKEY r) = record {
   ttl = r.ttl;
   dnskey = dnskey_data r.rdata;
 }
-
--- how many octets the key of a well-formed entry has at most, so that its data fit a record
-abbrev pub longest_key : ℕ
-longest_key = 65531
-
--- An entry is well formed where its algorithm is supported, its key has the algorithm's form, and its data fit a
--- record.
-abbrev pub is_well_formed : EntryData → Bool
-is_well_formed entry =
-    is_ok (key_form entry.dnskey.public_key.algorithm entry.dnskey.public_key.octets)
-    && nat_le (length entry.dnskey.public_key.octets) longest_key
 
 -- ---- lines
 

@@ -1,15 +1,12 @@
 //! The entries of an anchor text.
 ghost use Rattle.std.specs.Prelude.{◌≡◌};
 ghost use Rattle.dns_types.specs.TypeNumbers as types;
-ghost use Rattle.sec_anchor.specs.Entries.{entry_data, is_well_formed};
+ghost use Rattle.sec_keydata.specs.WellFormedKeys.{is_well_formed};
+ghost use Rattle.sec_anchor.specs.Entries.{entry_data};
 
 use dns_names::Name;
 use dns_types::{DNSClass, RecordType};
-use sec_codes::{PublicKey, decode_public_key};
 use sec_keydata::DNSKEY;
-
-/// How many octets the key of a well-formed entry has at most.
-const LONGEST_KEY: usize = 65_531;
 
 /// A record as it stands in an anchor text: its TTL may be left out.
 #[derive(Debug, Drop)]
@@ -81,11 +78,9 @@ impl Entry {
     /// Whether the algorithm is supported, the key has the form of its algorithm's keys (RFC 3110 2, RFC 6605 4,
     /// RFC 8080 3) and has at most 65,531 octets, so that the data fit a record (RFC 1035 3.2.1).
     pub fn is_well_formed(&self) -> bool
-        ensures { result ≡ is_well_formed (entry_data self.now) }
+        ensures { result ≡ is_well_formed (entry_data self.now).dnskey.public_key }
     {
         let Entry::DNSKEY(record) = self;
-        let key = record.rdata.public_key();
-        let octets = key.public_bytes();
-        decode_public_key(octets, key.algorithm()).is_ok() && octets.len() <= LONGEST_KEY
+        record.rdata.is_well_formed()
     }
 }

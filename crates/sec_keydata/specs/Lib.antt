@@ -10,3 +10,4 @@ pub mod KeyUses
 pub mod OptionalAlgorithms
 pub mod PublicKeyFields
 pub mod Tokens
+pub mod WellFormedKeys

@@ -7,13 +7,14 @@ ghost use Rattle.sec_codes.specs.KeptKeys.{kept_key};
 ghost use Rattle.sec_keydata.specs.DnsKeyFlags as specs;
 ghost use Rattle.sec_keydata.specs.DnsKeys.{dnskey_data, dnskey_fields, dnskey_values, dnskey_text, DnsKeyIsByNumber};
 ghost use Rattle.sec_keydata.specs.PublicKeyFields.{lent_fields};
+ghost use Rattle.sec_keydata.specs.WellFormedKeys.{is_well_formed};
 
-use crate::dnskey_fields::DnskeyFields;
+use crate::dnskey_fields::{DnskeyFields, LONGEST_KEY};
 use crate::dnskey_flags::{flags_of, is_revoked, is_secure_entry_point, is_zone_key};
 use dns_wire::{
     BinDecoder, BinEncodable, BinEncoder, DecodeError, EmitError, OutOfMemory, RecordDataDecodable,
 };
-use sec_codes::{Algorithm, PublicKey, PublicKeyBuf};
+use sec_codes::{Algorithm, PublicKey, PublicKeyBuf, decode_public_key};
 use std::alloc::Global;
 use std::fmt;
 
@@ -88,6 +89,18 @@ impl DNSKEY {
         ensures { result ≡ (dnskey_data self.now).flags }
     {
         self.flags
+    }
+
+    /// Whether the key's algorithm is supported, and the key has the form of the algorithm's keys (RFC 3110 2,
+    /// RFC 6605 4, RFC 8080 3) and at most 65,531 octets, so that the data fit a record (RFC 1035 3.2.1).
+    pub fn is_well_formed(&self) -> bool
+        ensures { result ≡ is_well_formed (dnskey_data self.now).public_key }
+    {
+        let algorithm = self.public_key.algorithm();
+        let octets = self.public_key.public_bytes();
+        algorithm.is_supported()
+            && decode_public_key(octets, algorithm).is_ok()
+            && octets.len() <= LONGEST_KEY
     }
 
     /// A copy of the key.

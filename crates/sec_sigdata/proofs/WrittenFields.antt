@@ -1,5 +1,5 @@
 -- What is written of data is read back.
-use Rattle.std.proofs.Common.{◌≡◌, ℕ, ◌^◌, ◌<◌, ltb, Bool, true, false, None, List, [], ◌∷◌, ◌++◌, length, append_assoc}
+use Rattle.std.proofs.Common.{◌≡◌, ℕ, ◌^◌, ◌<◌, ltb, Bool, true, false, None, List, [], ◌∷◌, ◌++◌, length}
 use Rattle.std.proofs.Common.{append-nil, length-append, Result, Ok, Err, refl, ap, sym, ◌∙◌, arith}
 use Rattle.std.proofs.lemmas.Bool.{lt-ltb}
 use Rattle.std.specs.Int.{w8, w16, to_be_bytes}
@@ -14,6 +14,7 @@ use Rattle.dns_grammar.specs.Fields.{Field, Value, Num, Str, One, Rest, any, val
 use Rattle.sec_sigdata.specs.SignatureRows.{bitmap_fault, hash_algorithm_fault, nsec3_flags_fault, sig_row, nsec_row}
 use Rattle.sec_sigdata.specs.SignatureRows.{nsec3_row, nsec3param_row}
 use Rattle.dns_grammar.specs.Laws.{HoldsAll, AreReadBack}
+use Rattle.dns_grammar.proofs.FieldOutLaws.{joined_nil, joined_more}
 use Rattle.dns_grammar.proofs.ReadAgain.{written_row}
 use Rattle.dns_grammar.proofs.ReadBack.{with_count}
 use Rattle.sec_sigdata.specs.Signatures.{SigData, input_row, input_values, sig_values, InputFits}
@@ -137,23 +138,12 @@ nsec3_back nsec3 small short few bitmap =
 
 -- ---- the signature behind its input
 
-joined_more : (r s t : Result (List ℕ) EmitError) → joined r (joined s t) ≡ joined (joined r s) t
-joined_more (Ok x) (Ok y) (Ok z) = ap (λ (octets : List ℕ). let ok : Result (List ℕ) EmitError = Ok octets in ok)
-    (sym (append_assoc x y z))
-joined_more (Ok x) (Ok y) (Err e) = refl
-joined_more (Ok x) (Err e) t = refl
-joined_more (Err e) s t = refl
-
-none_before : (r : Result (List ℕ) EmitError) → joined (Ok []) r ≡ r
-none_before (Ok x) = refl
-none_before (Err e) = refl
-
 -- fields, and those behind them
 fields_behind : (canonical : Bool) (fields others : List Field) (values rest : List Value)
     → length fields ≡ length values
     → fields_octets canonical (fields ++ others) (values ++ rest)
     ≡ joined (fields_octets canonical fields values) (fields_octets canonical others rest)
-fields_behind canonical [] others [] rest same = sym (none_before (fields_octets canonical others rest))
+fields_behind canonical [] others [] rest same = sym (joined_nil (fields_octets canonical others rest))
 fields_behind canonical (f ∷ fs) others (v ∷ vs) rest same =
     ap (joined (value_octets canonical f.kind v)) (fields_behind canonical fs others vs rest (omega (arith, same)))
     ∙ joined_more (value_octets canonical f.kind v) (fields_octets canonical fs vs)
