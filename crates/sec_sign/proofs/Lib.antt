@@ -6,3 +6,4 @@ pub mod AscendingLaws
 pub mod SigningLaws
 pub mod Codes
 pub mod OneReading
+pub mod PairVerdicts

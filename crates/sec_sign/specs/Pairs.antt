@@ -1,14 +1,15 @@
 -- When a key may have made a signature of a record set, and whether it did (RFC 4035 5.3.1).
-use Rattle.std.specs.Prelude.{Bool, false, ◌&&◌, ℕ, ◌+◌, ◌-◌, ◌%◌, ◌^◌, nat_eq, nat_lt, nat_le, if◌then◌else◌, is_ok}
-use Rattle.std.specs.Prelude.{List, length, drop, Option, Some, None, Result, Ok, Err}
+use Rattle.std.specs.Prelude.{Bool, false, not, ◌&&◌, ℕ, ◌+◌, ◌-◌, ◌%◌, ◌^◌, nat_eq, nat_lt, if◌then◌else◌}
+use Rattle.std.specs.Prelude.{List, length, drop, Option, Some, None, option_map, Result, Ok, Err}
 use Rattle.dns_wire.specs.declared.error.EmitError.{EmitError}
 use Rattle.dns_names.specs.Names.{count, same}
-use Rattle.sec_codes.specs.Algorithms.{number, supported}
-use Rattle.sec_codes.specs.KeyForms.{Key, key_form}
+use Rattle.sec_codes.specs.Algorithms.{number}
+use Rattle.sec_codes.specs.KeyForms.{Key}
 use Rattle.sec_keydata.specs.declared.key_data_error.KeyDataError.{KeyDataError}
 use Rattle.sec_keydata.specs.DnsKeyFlags.{is_zone_key}
 use Rattle.sec_keydata.specs.DnsKeys.{DnsKeyData}
 use Rattle.sec_keydata.specs.KeyTags.{dnskey_tag}
+use Rattle.sec_keydata.specs.WellFormedKeys.{is_well_formed}
 use Rattle.sec_sigdata.specs.declared.rrsig.RRSIG.{RRSIG}
 use Rattle.sec_sigdata.specs.declared.sig_input.SigInput.{SigInput}
 use Rattle.sec_sigdata.specs.Signatures.{SigData, rrsig_data}
@@ -16,7 +17,6 @@ use Rattle.dns_rdata.specs.declared.dnssec_rdata.DNSSECRData.TheVariants as dnss
 use Rattle.dns_rdata.specs.declared.rdata.RData.{RData}
 use Rattle.dns_rdata.specs.declared.rdata.RData.TheVariants as rdata
 use Rattle.dns_message.specs.declared.record.Record.{Record}
-use Rattle.sec_sign.specs.declared.pair.TheConstants.{LONGEST_KEY}
 use Rattle.sec_sign.specs.declared.pair.PairVerdict.{PairVerdict}
 use Rattle.sec_sign.specs.declared.pair.PairVerdict.TheVariants.{NotMet, NotAccepted, Authentic}
 use Rattle.sec_sign.specs.declared.tbs_error.TbsError.{TbsError}
@@ -38,11 +38,6 @@ abbrev pub is_within_times : SigInput → ℕ → Bool
 is_within_times h moment = is_up_to h.sig_inception.0 moment && is_up_to moment h.sig_expiration.0
 
 -- ---- keys
-
--- whether a key's algorithm is supported, and the key has the form of the algorithm's keys and fits a record
-abbrev pub is_well_formed : Key → Bool
-is_well_formed key =
-    supported key.algorithm && (nat_le (length key.octets) LONGEST_KEY && is_ok (key_form key.algorithm key.octets))
 
 -- whether a key has this tag
 abbrev pub is_tag : Result ℕ KeyDataError → ℕ → Bool
@@ -109,29 +104,58 @@ abbrev pub is_authentic : Relation → List (List ℕ) → ℕ → SigData → K
 is_authentic accepts n k sig key set =
     passes (λ octets. accepts key.algorithm key.octets octets sig.sig) (signed_of sig.input n k set)
 
--- the RRSIG by which a record and a key meet the set at a moment
-abbrev pub met_by : ℕ → SetName → Record RData → ZoneKey → Option RRSIG
-met_by moment set rr key = where_met (rrsig_of rr.rdata)
-  where
-    where_met : Option RRSIG → Option RRSIG
-    where_met None = None
-    where_met (Some rrsig) =
-        if meets moment set rr.name rr.dns_class (rrsig_data rrsig).input key then Some rrsig else None
+-- a record as a signature of a set: its owner, its class, and the data of an RRSIG, where it has such that aren't empty
+pub record SignatureRecord : Type 0 where
+  pub owner : List (List ℕ)
+  pub dns_class : ℕ
+  pub rrsig : Option SigData
 
--- the verdict on the RRSIG, if there is one, and the key
-abbrev pub verdict_on : Relation → SetName → Key → Result (List (List ℕ)) EmitError → Option RRSIG → PairVerdict
-verdict_on accepts set key octets None = NotMet
-verdict_on accepts set key octets (Some rrsig) =
-    if is_authentic accepts set.name set.dns_class (rrsig_data rrsig) key octets then Authentic else NotAccepted
+abbrev pub signature_record : Record RData → SignatureRecord
+signature_record rr = record {
+  owner = rr.name;
+  dns_class = rr.dns_class;
+  rrsig = option_map rrsig_data (rrsig_of rr.rdata);
+}
 
--- the verdict on a record and a key at a moment, for the set with these data, which are none where a record of the set
--- can't be written
+-- the verdict on an RRSIG with this owner and class, if there is one, and a key at a moment, for the set with these data,
+-- which are none where a record of the set can't be written
+abbrev pub rrsig_verdict : Relation → ℕ → SetName → ZoneKey → Result (List (List ℕ)) EmitError → List (List ℕ) → ℕ
+    → Option SigData → PairVerdict
+rrsig_verdict accepts moment set key octets owner dns_class None = NotMet
+rrsig_verdict accepts moment set key octets owner dns_class (Some sig) =
+    if not (meets moment set owner dns_class sig.input key) then NotMet
+    else if is_authentic accepts set.name set.dns_class sig key.dnskey.public_key octets then Authentic
+    else NotAccepted
+
+-- the same on a record
+abbrev pub record_verdict : Relation → ℕ → SetName → ZoneKey → Result (List (List ℕ)) EmitError → SignatureRecord
+    → PairVerdict
+record_verdict accepts moment set key octets signature =
+    rrsig_verdict accepts moment set key octets signature.owner signature.dns_class signature.rrsig
+
+-- the same on a record in memory
 abbrev pub set_verdict : Relation → ℕ → SetName → Record RData → ZoneKey → Result (List (List ℕ)) EmitError
     → PairVerdict
-set_verdict accepts moment set rr key octets =
-    verdict_on accepts set key.dnskey.public_key octets (met_by moment set rr key)
+set_verdict accepts moment set rr key octets = record_verdict accepts moment set key octets (signature_record rr)
 
 -- the verdict on a record and a key at a moment, for the set that is among these records
 abbrev pub pair_verdict : Relation → ℕ → SetName → Record RData → ZoneKey → List (Record RData) → PairVerdict
 pair_verdict accepts moment set rr key records =
     set_verdict accepts moment set rr key (set_data set.name set.dns_class set.rtype records)
+
+-- ---- how it is found
+
+-- the RRSIG, if there is one, by which a record with this owner and class and a key meet the set at a moment
+abbrev pub met_rrsig : ℕ → SetName → ZoneKey → List (List ℕ) → ℕ → Option RRSIG → Option RRSIG
+met_rrsig moment set key owner dns_class None = None
+met_rrsig moment set key owner dns_class (Some rrsig) =
+    if meets moment set owner dns_class (rrsig_data rrsig).input key then Some rrsig else None
+
+abbrev pub met_by : ℕ → SetName → Record RData → ZoneKey → Option RRSIG
+met_by moment set rr key = met_rrsig moment set key rr.name rr.dns_class (rrsig_of rr.rdata)
+
+-- the verdict on an RRSIG that meets the set by a key, if there is one
+abbrev pub verdict_on : Relation → SetName → Key → Result (List (List ℕ)) EmitError → Option RRSIG → PairVerdict
+verdict_on accepts set key octets None = NotMet
+verdict_on accepts set key octets (Some rrsig) =
+    if is_authentic accepts set.name set.dns_class (rrsig_data rrsig) key octets then Authentic else NotAccepted

@@ -43,19 +43,28 @@ chosen n k t = filter (is_of n k t)
 unfoldable pub canonical : RData → Result (List ℕ) EmitError
 canonical rdata = fitting (rdata_octets true (rdata_row rdata) (rdata_values rdata))
 
--- those of each record, or why the first that has none has none
-abbrev pub canonical_each : List (Record RData) → Result (List (List ℕ)) EmitError
-canonical_each [] = Ok []
-canonical_each (r ∷ rs) = do
-  c ← canonical r.rdata
-  cs ← canonical_each rs
-  Ok (c ∷ cs)
+-- what each of a list gives, or why the first that gives nothing gives nothing
+abbrev pub for_each : {A B E : Type 0} → (A → Result B E) → List A → Result (List B) E
+for_each f [] = Ok []
+for_each f (x ∷ xs) = do
+  y ← f x
+  ys ← for_each f xs
+  Ok (y ∷ ys)
 
--- the data of a set, in ascending order and each once (RFC 4034 6.3)
-abbrev pub set_data : List (List ℕ) → ℕ → ℕ → List (Record RData) → Result (List (List ℕ)) EmitError
-set_data n k t records = do
-  cs ← canonical_each (chosen n k t records)
+-- the data of each record, or why the first that has none has none
+abbrev pub canonical_each : List (Record RData) → Result (List (List ℕ)) EmitError
+canonical_each = for_each (λ r. canonical r.rdata)
+
+-- the data of those that are of a set, in ascending order and each once (RFC 4034 6.3)
+abbrev pub data_of_set : {A : Type 0} → (A → Bool) → (A → Result (List ℕ) EmitError) → List A
+    → Result (List (List ℕ)) EmitError
+data_of_set is_of_set data_of_record records = do
+  cs ← for_each data_of_record (filter is_of_set records)
   Ok (ascending cs)
+
+-- the data of the set with this name, class and type
+abbrev pub set_data : List (List ℕ) → ℕ → ℕ → List (Record RData) → Result (List (List ℕ)) EmitError
+set_data n k t = data_of_set (is_of n k t) (λ r. canonical r.rdata)
 
 -- ---- the string
 

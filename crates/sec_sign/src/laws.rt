@@ -2,7 +2,6 @@
 ghost use Rattle.std.specs.Prelude.{◌≡◌, ℕ, List, true, IsOk, Ok};
 ghost use Rattle.sec_codes.specs.KeyForms.{key_form};
 ghost use Rattle.sec_sigdata.specs.Signatures.{rrsig_data};
-ghost use Rattle.sec_sign.specs.declared.pair.TheConstants.{LONGEST_KEY};
 ghost use Rattle.sec_sign.specs.Ascending.{ascending, Ascend, SameStrings};
 ghost use Rattle.sec_sign.specs.KeyedHashes.{key_of_hash};
 ghost use Rattle.sec_sign.specs.OneReading.{OneReading};
@@ -18,11 +17,6 @@ use dns_message::RecordSet;
 use dns_types::DNSClass;
 use sec_codes::{Algorithm, SignatureScheme};
 use sec_sigdata::RRSIG;
-
-/// How many octets a key has at most.
-pub fn longest_key()
-    ensures { LONGEST_KEY ≡ 65531 }
-{}
 
 /// There is one strictly ascending list of given strings.
 pub fn one_list_ascends()

@@ -5,7 +5,7 @@ ghost use Rattle.sec_codes.specs.KeptKeys.{kept_key};
 ghost use Rattle.sec_keydata.specs.DnsKeys.{dnskey_data};
 ghost use Rattle.sec_keydata.specs.KeyTags.{dnskey_tag};
 ghost use Rattle.sec_sigdata.specs.Signatures.{rrsig_data};
-ghost use Rattle.sec_sign.specs.Pairs.{is_up_to, is_within_times, is_well_formed, is_under, covers_set, names_key};
+ghost use Rattle.sec_sign.specs.Pairs.{is_up_to, is_within_times, is_under, covers_set, names_key};
 ghost use Rattle.sec_sign.specs.Pairs.{may_sign, is_authentic, is_tag, rrsig_of, met_by, pair_verdict, set_verdict};
 
 use crate::canonical_set::CanonicalSet;
@@ -16,13 +16,10 @@ use dns_names::Name;
 use dns_rdata::{DNSSECRData, RData};
 use dns_types::{DNSClass, RecordType};
 use dns_wire::{EmitError, OutOfMemory};
-use sec_codes::{PublicKey, PublicKeyBuf, SignatureScheme, decode_public_key};
+use sec_codes::{PublicKey, PublicKeyBuf, SignatureScheme};
 use sec_keydata::DNSKEY;
 use sec_sigdata::{RRSIG, SigInput};
 use std::alloc::Global;
-
-/// How many octets a key has at most whose DNSKEY fits a record.
-const LONGEST_KEY: usize = 65_531;
 
 /// What is found of an RRSIG and a key for a record set.
 #[derive(Clone, Copy, Debug, PartialEq, Eq)]
@@ -47,16 +44,6 @@ fn is_within_times(input: &SigInput, moment: u32) -> bool
     ensures { result ≡ is_within_times input.now moment }
 {
     is_up_to(input.sig_inception.0, moment) && is_up_to(moment, input.sig_expiration.0)
-}
-
-/// Whether a key's algorithm is supported, and the key has the form of the algorithm's keys and fits a record.
-fn is_well_formed(key: &PublicKeyBuf) -> bool
-    ensures { result ≡ is_well_formed (kept_key key.now) }
-{
-    let octets = key.public_bytes();
-    key.algorithm().is_supported()
-        && octets.len() <= LONGEST_KEY
-        && decode_public_key(octets, key.algorithm()).is_ok()
 }
 
 /// Whether an RRSIG with this owner, this class and these fields is one of the set.
@@ -116,7 +103,7 @@ fn is_under(name: &Name, zone: &Name) -> bool
 fn may_sign(key_owner: &Name, key: &DNSKEY, name: &Name) -> bool
     ensures { result ≡ may_sign key_owner.now (dnskey_data key.now) name.now }
 {
-    key.zone_key() && is_under(name, key_owner) && is_well_formed(key.public_key())
+    key.zone_key() && is_under(name, key_owner) && key.is_well_formed()
 }
 
 /// The RRSIG that data are.
@@ -219,6 +206,7 @@ fn met_by<'a>(
 /// # Errors
 ///
 /// Out of memory.
+#[tactic(auto, using(crate::proofs::PairVerdicts::verdict_by_none))]
 pub fn authenticates<S: SignatureScheme>(
     alloc: Global,
     scheme: &S,
@@ -260,6 +248,7 @@ pub fn authenticates<S: SignatureScheme>(
 /// # Errors
 ///
 /// Out of memory.
+#[tactic(auto, using(crate::proofs::PairVerdicts::verdict_by_none))]
 pub fn authenticates_set<S: SignatureScheme>(
     alloc: Global,
     scheme: &S,
