@@ -3,10 +3,9 @@ use Rattle.std.proofs.Common.{◌≡◌, ℕ, ◌+◌, Bool, List, length, Optio
 use Rattle.std.proofs.Common.{◌∙◌}
 use Rattle.std.specs.Int.{w16, w32}
 use Rattle.dns_wire.specs.declared.error.DecodeError.{DecodeError}
-use Rattle.dns_wire.specs.Reading.{◌>>=◌}
 use Rattle.dns_wire.proofs.FieldLaws.{number_read}
 use Rattle.dns_names.proofs.PlaceLaws.{name_at_complete}
-use Rattle.dns_grammar.specs.Messages.{Header, Message, Outline, ResourceRecord, Signature, RecordAt, HasTsig}
+use Rattle.dns_grammar.specs.Messages.{Header, Message, Outline, ResourceRecord, RecordAt, HasTsig}
 use Rattle.dns_grammar.specs.Messages.{last_additional, message_at, signature_of}
 use Rattle.dns_grammar.proofs.MessageLaws.{message_stands}
 use Rattle.dns_rdata.specs.RDataTable.{rdata_table}

@@ -1,12 +1,12 @@
 -- The verdict on octets, by the message that stands in them.
-use Rattle.std.proofs.Common.{◌≡◌, ℕ, ◌&&◌, ◌≤◌, ◌<◌, ◌^◌, not, Bool, true, false, cond, nat_lt, nat_le, List, length, Result}
+use Rattle.std.proofs.Common.{◌≡◌, ℕ, ◌&&◌, not, Bool, true, false, nat_lt, List, length, Result}
 use Rattle.std.proofs.Common.{Option, Some, None, Ok, Err, refl, sym, ap, ◌∙◌, arith, if◌then◌else◌}
 use Rattle.std.specs.Str.{bytes_eq}
 use Rattle.std.proofs.lemmas.Bool.{le-leb, lt-ltb, le-ltb, leb-true, ltb-true}
 use Rattle.dns_wire.specs.declared.error.DecodeError.{DecodeError}
 use Rattle.dns_wire.specs.Reading.{◌>>=◌}
 use Rattle.dns_names.specs.NameLaws.{same_decides}
-use Rattle.dns_names.specs.Names.{wire}
+use Rattle.dns_names.specs.Names.{wire, Same}
 use Rattle.dns_grammar.specs.Messages.{Header, Message, Signature, HasTsig, signature_of, message_at}
 use Rattle.dns_grammar.proofs.MessageLaws.{message_stands, message_read}
 use Rattle.dns_rdata.specs.RDataTable.{rdata_table}
@@ -17,10 +17,10 @@ use Rattle.std.proofs.lemmas.Slice.Eq.{bytes_eq-Decides}
 use Rattle.sec_tsig.specs.declared.verify_error.VerifyError.{VerifyError}
 use Rattle.sec_tsig.specs.declared.verify_error.VerifyError.TheVariants as causes
 use Rattle.sec_tsig.specs.Verdict.{Chain, advanced, checked_mac, expected_mac, has_signers_key, is_in_time, is_response}
-use Rattle.sec_tsig.specs.Verdict.{judged, signature_verdict, verdict, with_signature}
+use Rattle.sec_tsig.specs.Verdict.{judged, signature_verdict, with_signature}
 use Rattle.sec_tsig.specs.Laws.{IsNoMessage, VerdictIsByMessage, NoMessageIsDecode, IsValidResponse, ValidIsAccepted}
 use Rattle.sec_tsig.specs.Laws.{AcceptedIsValid}
-use Rattle.sec_tsig.specs.Signers.{algorithm_name}
+use Rattle.sec_tsig.specs.Signers.{Signer, algorithm_name}
 
 pub verdict_by_message : VerdictIsByMessage
 verdict_by_message chain octets message e stands =
@@ -41,16 +41,6 @@ no_message_is_decode chain octets none =
 
 -- ---- valid responses
 
--- the verdict where no cause holds
-pub passes : (chain : Chain) (m : List ℕ) (header : Header) (s : Signature)
-    → has_signers_key chain.signer s ≡ true
-    → nat_lt (length s.tsig.mac) (mac_len chain.signer.algorithm) ≡ false
-    → bytes_eq s.tsig.mac (expected_mac chain.signer (Some chain.mac) chain.first m header s) ≡ true
-    → is_in_time chain s ≡ true → is_response header ≡ true
-    → signature_verdict chain m header s ≡ Ok (advanced chain s.tsig.mac s.tsig.time)
-unfolding signature_verdict
-passes chain m header s key long mac time response = rw (key, long, mac, time, response) refl
-
 both : (a b : Bool) → a ≡ true → b ≡ true → a && b ≡ true
 both a b p q = rw (p, q) refl
 
@@ -58,22 +48,38 @@ both a b p q = rw (p, q) refl
 abbrev pub HmacHasLength : Type 0
 HmacHasLength = (hash : HmacHash) (key message : List ℕ) → length (hmac hash key message) ≡ mac_len hash
 
+-- the MAC of a message under the signer's key that is right
+pub mac_is_right : HmacHasLength → (signer : Signer) (previous : Option (List ℕ)) (first : Bool) (m : List ℕ)
+    (header : Header) (s : Signature) → Same signer.name s.name → s.tsig.algorithm ≡ algorithm_name signer.algorithm
+    → s.tsig.mac ≡ expected_mac signer previous first m header s
+    → checked_mac signer previous first m header s ≡ Ok s.tsig.mac
+mac_is_right length-hmac signer previous first m header s owner algorithm mac =
+    let expected = expected_mac signer previous first m header s in
+    let key : has_signers_key signer s ≡ true = both _ _ ((same_decides signer.name s.name).1 owner)
+    ((bytes_eq-Decides (wire (algorithm_name signer.algorithm)) (wire s.tsig.algorithm)).1 (ap wire (sym algorithm))) in
+    let len : length s.tsig.mac ≡ mac_len signer.algorithm = ap (λ (l : List ℕ). length l) mac
+    ∙ length-hmac signer.algorithm signer.key _ in
+    let long : nat_lt (length s.tsig.mac) (mac_len signer.algorithm) ≡ false = le-ltb _ _ (omega (arith, len)) in
+    let right : bytes_eq s.tsig.mac expected ≡ true = (bytes_eq-Decides s.tsig.mac expected).1 mac in
+    rw (key, long, right) refl
+
+-- the verdict where no cause holds
+passes : (chain : Chain) (m : List ℕ) (header : Header) (s : Signature)
+    → checked_mac chain.signer (Some chain.mac) chain.first m header s ≡ Ok s.tsig.mac
+    → is_in_time chain s ≡ true → is_response header ≡ true
+    → signature_verdict chain m header s ≡ Ok (advanced chain s.tsig.mac s.tsig.time)
+unfolding signature_verdict
+passes chain m header s mac time response = rw (mac, time, response) refl
+
 pub valid_is_accepted : HmacHasLength → ValidIsAccepted
 valid_is_accepted length-hmac chain m s v =
     let header = v.message.header in
-    let expected = expected_mac chain.signer (Some chain.mac) chain.first m header s in
-    let key : has_signers_key chain.signer s ≡ true = both _ _ ((same_decides chain.signer.name s.name).1 v.owner)
-    ((bytes_eq-Decides (wire (algorithm_name chain.signer.algorithm)) (wire s.tsig.algorithm)).1
-    (ap wire (sym v.algorithm))) in
-    let len : length s.tsig.mac ≡ mac_len chain.signer.algorithm = ap (λ (l : List ℕ). length l) v.mac
-    ∙ length-hmac chain.signer.algorithm chain.signer.key _ in
-    let long : nat_lt (length s.tsig.mac) (mac_len chain.signer.algorithm) ≡ false = le-ltb _ _ (omega (arith, len)) in
-    let right : bytes_eq s.tsig.mac expected ≡ true = (bytes_eq-Decides s.tsig.mac expected).1 v.mac in
+    let mac = mac_is_right length-hmac chain.signer (Some chain.mac) chain.first m header s v.owner v.algorithm v.mac in
     let time : is_in_time chain s ≡ true = both _ _ (both _ _ (le-leb _ _ v.in_order) (le-leb _ _ v.from_start))
     (lt-ltb _ _ v.before_end) in
     verdict_by_message chain m v.message v.end v.has.stands
     ∙ ap (with_signature (signature_verdict chain m) header) v.has.is_last
-    ∙ passes chain m header s key long right time (le-leb _ _ v.response)
+    ∙ passes chain m header s mac time (le-leb _ _ v.response)
 
 -- ---- accepted octets
 
@@ -122,11 +128,11 @@ verdict_sieved chain next m header s e =
     (bytes_eq s.tsig.mac (expected_mac chain.signer (Some chain.mac) chain.first m header s))
     (is_in_time chain s) (is_response header) s.tsig.mac (λ mac. advanced chain mac s.tsig.time) next e
 
-left_true : (a b : Bool) → a && b ≡ true → a ≡ true
+pub left_true : (a b : Bool) → a && b ≡ true → a ≡ true
 left_true true b e = refl
 left_true false b e = e
 
-right_true : (a b : Bool) → a && b ≡ true → b ≡ true
+pub right_true : (a b : Bool) → a && b ≡ true → b ≡ true
 right_true true b e = e
 right_true false b e = absurd cc
 

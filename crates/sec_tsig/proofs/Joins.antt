@@ -1,6 +1,6 @@
 -- A TSIG record put behind a message.
-use Rattle.std.proofs.Common.{◌≡◌, ◌≢◌, ℕ, ◌+◌, ◌-◌, ◌≤◌, ◌<◌, Bool, true, false, cond, nat_lt, List, [], ◌∷◌, ◌++◌, length}
-use Rattle.std.proofs.Common.{take, drop, get_or, slice_range, Result, Ok, Err, refl, sym, ap, ◌∙◌, arith, append_assoc}
+use Rattle.std.proofs.Common.{◌≡◌, ◌≢◌, ℕ, ◌+◌, ◌≤◌, ◌<◌, true, false, nat_lt, List, ◌++◌, length}
+use Rattle.std.proofs.Common.{take, drop, slice_range, Ok, Err, refl, sym, ap, ◌∙◌, arith, append_assoc}
 use Rattle.std.proofs.Common.{length-append, lt-ltb, eq-eqb}
 use Rattle.std.specs.Int.{w16, from_be_bytes}
 use Rattle.std.proofs.lemmas.Bool.{le-ltb, ne_eqb}
@@ -11,14 +11,9 @@ use Rattle.dns_wire.specs.declared.error.EmitError.TheVariants.{CountTooLarge, M
 use Rattle.dns_wire.specs.Octets.{two_octets}
 use Rattle.dns_wire.specs.Reading.{◌>>=◌}
 use Rattle.dns_wire.specs.Writing.{paste}
-use Rattle.dns_grammar.specs.Fields.{Field, fields_octets}
-use Rattle.dns_grammar.specs.Messages.{tsig_values}
-use Rattle.dns_grammar.specs.RecordData.{rdata_octets}
 use Rattle.sec_sigdata.specs.declared.tsig.TSIG.{TSIG}
-use Rattle.sec_sigdata.specs.TsigRecords.{tsig_data}
 use Rattle.dns_message.specs.declared.record.Record.{Record}
-use Rattle.dns_message.specs.MessageWriting.{with_rdata, written_tsig_record}
-use Rattle.dns_message.specs.Parts.{tsig_record_view}
+use Rattle.dns_message.specs.MessageWriting.{written_tsig_record}
 use Rattle.sec_tsig.specs.Tsig.{TsigRecord, additional_count, join, sized, tsig_record, with_record, written_record}
 
 -- the octets of the record, as dns_message writes them

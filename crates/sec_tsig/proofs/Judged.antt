@@ -1,8 +1,8 @@
 -- What octets come to, by the view of the message in them.
 use Rattle.std.proofs.Common.{◌≡◌, ℕ, ◌&&◌, false, ◌==◌, is_none, List, length, Option, Some, None, option_map, Result, Ok}
-use Rattle.std.proofs.Common.{Err, refl, sym, ap, ◌∙◌, Bool, true}
+use Rattle.std.proofs.Common.{Err, refl, ap, ◌∙◌, Bool, true}
 use Rattle.dns_wire.specs.declared.error.DecodeError.{DecodeError}
-use Rattle.dns_grammar.specs.Messages.{Message, Outline, Header, Signature, outline_of, message_at}
+use Rattle.dns_grammar.specs.Messages.{Message, Outline, Header, Signature, message_at}
 use Rattle.dns_rdata.specs.RDataTable.{rdata_table}
 use Rattle.dns_message.specs.declared.tsig_view.TsigView.{TsigView}
 use Rattle.dns_message.specs.declared.view.MessageView.{MessageView}

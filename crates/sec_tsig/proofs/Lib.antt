@@ -6,7 +6,11 @@ pub mod Ranges
 pub mod ByMessage
 pub mod OneReadings
 pub mod Buffers
+pub mod LastRecords
+pub mod WrittenMessages
+pub mod Rejoined
+pub mod WrittenEnds
+pub mod SignedRecords
 pub mod Passes
 pub mod Signable
-pub mod WrittenMessages
 pub mod Transfers

@@ -1,23 +1,23 @@
 -- Octets under a MAC have one reading.
-use Rattle.std.proofs.Common.{◌≡◌, ℕ, ◌+◌, ◌-◌, ◌^◌, ◌<◌, ◌≤◌, Bool, true, false, List, [], ◌++◌, length, take, drop}
-use Rattle.std.proofs.Common.{get_or, slice_range, Some, refl, sym, ap, subst, ◌∙◌, append_assoc, arith, inl}
+use Rattle.std.proofs.Common.{◌≡◌, ℕ, ◌-◌, ◌^◌, ◌<◌, ◌≤◌, Bool, true, false, List, [], ◌++◌, length}
+use Rattle.std.proofs.Common.{slice_range, Some, refl, sym, ap, ◌∙◌, append_assoc, arith, inl}
 use Rattle.std.specs.Int.{w16, from_be_bytes}
-use Rattle.std.proofs.lemmas.List.{length-append, length-take, length-drop, append-nil, get_or-take, get_or-drop}
-use Rattle.std.proofs.lemmas.Nat.{be_bytes_2}
+use Rattle.std.proofs.lemmas.List.{length-append, append-nil}
 use Rattle.dns_wire.specs.Octets.{AreOctets, two_octets, four_octets, six_octets}
 use Rattle.dns_wire.specs.Reading.{NumberAt}
-use Rattle.dns_names.specs.Names.{wire, low, Same, IsName}
-use Rattle.dns_grammar.specs.Extents.{SameOctets, IsPrefix}
-use Rattle.dns_grammar.specs.Messages.{Message, Signature, TsigData, HasTsig}
+use Rattle.dns_names.specs.Names.{wire, low, Same}
+use Rattle.dns_grammar.specs.Extents.{IsPrefix}
+use Rattle.dns_grammar.specs.Messages.{Signature, TsigData}
 use Rattle.dns_grammar.proofs.StartLaws.{one_start, starts_inside}
 use Rattle.dns_rdata.specs.RDataTable.{rdata_table}
 use Rattle.sec_digest.specs.declared.hmac.HmacHash.{HmacHash}
 use Rattle.sec_digest.specs.declared.hmac.HmacHash.TheVariants as hashes
 use Rattle.sec_sigdata.specs.TsigRecords.{any_class, tsig_timers, key_variables, error_variables, tsig_variables}
-use Rattle.sec_tsig.specs.Tsig.{prior_mac, message_without_tsig, covered_fields, mac_input, received_input}
+use Rattle.sec_tsig.specs.Tsig.{prior_mac, message_without_tsig, covered_fields, mac_input}
 use Rattle.sec_tsig.specs.Signers.{algorithm_name}
-use Rattle.sec_tsig.specs.Laws.{IsValidResponse, OneReading, InputHasOneReading}
-use Rattle.sec_tsig.proofs.Pieces.{split, two_same, six_same, one_name, filled_low, slice_split, at_index, taken, dropped}
+use Rattle.sec_tsig.specs.Laws.{InputHasOneReading}
+use Rattle.sec_tsig.proofs.Pieces.{split, two_same, six_same, one_name, filled_low, slice_split, slice_same, length-slice}
+use Rattle.sec_tsig.proofs.Pieces.{number_octets}
 use Rattle.sec_tsig.proofs.Ranges.{number_fits, InRange, in_range}
 
 -- ---- what is covered of the record
@@ -137,24 +137,11 @@ input_parts mac first oid additionals m start n a =
     regrouped (two_octets (length mac)) mac (two_octets oid) (slice_range m 2 10) (two_octets (additionals - 1))
     (slice_range m 12 start) (covered_fields first n a)
 
-length-slice : (m : List ℕ) (a b : ℕ) → a ≤ b → b ≤ length m → length (slice_range m a b) ≡ b - a
-length-slice m a b le le1 = simp (length-take, length-drop) (omega arith)
-
-head_same : (m n : List ℕ) → slice_range m 2 10 ≡ slice_range n 2 10 → SameOctets m n 2 10
-head_same m n e k ak kb =
-    let lt : k - 2 < 8 = omega arith in
-    let at : 2 + (k - 2) ≡ k = omega arith in
-    let side : (l : List ℕ) → get_or (slice_range l 2 10) (k - 2) 0 ≡ get_or l k 0 = λ l.
-    get_or-take 8 (drop 2 l) (k - 2) 0 lt ∙ get_or-drop 2 l (k - 2) 0 ∙ ap (λ j. get_or l j 0) at in
-    sym (side m) ∙ ap (λ xs. get_or xs (k - 2) 0) e ∙ side n
-
 -- the octets of the additional count
 count_octets : (m : List ℕ) (k : ℕ) → AreOctets m → NumberAt w16 m 10 (length m) k 12
     → two_octets k ≡ slice_range m 10 12
 count_octets m k octets at =
-    let len : length (slice_range m 10 12) ≡ 2 = length-slice m 10 12 (omega arith) (omega (arith, at.1.inside)) in
-    be_bytes_2 (slice_range m 10 12) k len (λ i. at_index (slice_range m 10 12) i (taken 2 (drop 10 m) (dropped 10 m octets)))
-    (at.2 ∙ ap (from_be_bytes w16) at.1.value)
+    number_octets m 10 k octets (omega (arith, at.1.inside)) (at.2 ∙ ap (from_be_bytes w16) at.1.value)
 
 -- the octets from the flags up to the signature
 front_split : (m : List ℕ) (start : ℕ) → 12 ≤ start
@@ -199,7 +186,7 @@ one_reading chain other m n s t valid valid1 octets octets1 mac mac1 e =
       append-nil (slice_range m 12 s.start ++ f) ∙ p5.1,
     ) in
     let starts : s.start ≡ t.start = one_start rdata_table m n valid.message valid1.message s t valid.end valid1.end f f1
-    has has1 (head_same m n p4.0) counts (inl begins) in
+    has has1 (slice_same m n 2 10 p4.0) counts (inl begins) in
     let body_len = length-slice m 12 s.start at.ahead (omega (arith, at.inside)) in
     let body_len1 = length-slice n 12 t.start at1.ahead (omega (arith, at1.inside)) in
     let p6 = split (slice_range m 12 s.start) (slice_range n 12 t.start) f f1

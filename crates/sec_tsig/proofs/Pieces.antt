@@ -4,10 +4,12 @@ use Rattle.std.proofs.Common.{get_or, slice_range, refl, sym, ap, ◌∙◌, app
 use Rattle.std.specs.Int.{w16, w32, from_be_bytes}
 use Rattle.std.specs.List.{AllByRecursion}
 use Rattle.std.proofs.Math.Seq.{take-add}
-use Rattle.std.proofs.lemmas.List.{drop-drop, length-map}
-use Rattle.std.proofs.lemmas.Nat.{from_be_bytes-to_be_bytes_2, from_be_bytes-to_be_bytes_4}
+use Rattle.std.proofs.lemmas.List.{drop-append-le, drop-drop, drop_at, get_or-drop, get_or-take, length-drop, length-map}
+use Rattle.std.proofs.lemmas.List.{length-take, take-append-le, take_at}
+use Rattle.std.proofs.lemmas.Nat.{be_bytes_2, from_be_bytes-to_be_bytes_2, from_be_bytes-to_be_bytes_4}
 use Rattle.dns_wire.specs.Octets.{AreOctets, lower, two_octets, four_octets, six_octets}
 use Rattle.dns_names.specs.Names.{wire, low, IsLabel}
+use Rattle.dns_grammar.specs.Extents.{SameOctets}
 
 -- what is equal begins with what is equal, where that has one length
 pub split : (a b x y : List ℕ) → length a ≡ length b → a ++ x ≡ b ++ y → (a ≡ b) × (x ≡ y)
@@ -68,6 +70,31 @@ slice_split m a b c le le1 =
     ap (λ k. take k (drop a m)) (sym sum) ∙ take-add (b - a) (c - b) (drop a m)
     ∙ ap (λ r. take (b - a) (drop a m) ++ take (c - b) r) (drop-drop (b - a) a m ∙ ap (λ k. drop k m) at)
 
+pub length-slice : (m : List ℕ) (a b : ℕ) → a ≤ b → b ≤ length m → length (slice_range m a b) ≡ b - a
+length-slice m a b le le1 = simp (length-take, length-drop) (omega arith)
+
+-- equal parts have the same octets
+pub slice_same : (m n : List ℕ) (a b : ℕ) → slice_range m a b ≡ slice_range n a b → SameOctets m n a b
+slice_same m n a b e k ak kb =
+    let lt : k - a < b - a = omega arith in
+    let at : a + (k - a) ≡ k = omega arith in
+    let side : (l : List ℕ) → get_or (slice_range l a b) (k - a) 0 ≡ get_or l k 0 = λ l.
+    get_or-take (b - a) (drop a l) (k - a) 0 lt ∙ get_or-drop a l (k - a) 0 ∙ ap (λ j. get_or l j 0) at in
+    sym (side m) ∙ ap (λ xs. get_or xs (k - a) 0) e ∙ side n
+
+-- a part of what a string begins with
+pub front_slice : (front rest : List ℕ) (a b : ℕ) → a ≤ b → b ≤ length front
+    → slice_range (front ++ rest) a b ≡ slice_range front a b
+front_slice front rest a b le le1 =
+    ap (λ l. take (b - a) l) (drop-append-le a front rest (omega arith))
+    ∙ take-append-le (b - a) (drop a front) rest (simp length-drop (omega arith))
+
+-- a part right behind what a string begins with
+pub next_slice : (front part rest : List ℕ) (a b : ℕ) → length front ≡ a → length part ≡ b - a
+    → slice_range (front ++ (part ++ rest)) a b ≡ part
+next_slice front part rest a b at long =
+    ap (λ l. take (b - a) l) (drop_at front (part ++ rest) a at) ∙ take_at part rest (b - a) long
+
 -- ---- octets
 
 pub at_index : (m : List ℕ) (k : ℕ) → AreOctets m → get_or m k 0 < 256
@@ -88,6 +115,14 @@ dropped (suc n) (x ∷ m) h = dropped n m h.1
 
 pub two_below : (x : List ℕ) → AreOctets x → from_be_bytes w16 x < 2 ^ 16
 two_below x h = omega (arith, at_index x 0 h, at_index x 1 h)
+
+-- the two octets of a number
+pub number_octets : (m : List ℕ) (a n : ℕ) → AreOctets m → a + 2 ≤ length m
+    → n ≡ from_be_bytes w16 (slice_range m a (a + 2)) → two_octets n ≡ slice_range m a (a + 2)
+number_octets m a n octets le is =
+    let part : List ℕ = slice_range m a (a + 2) in
+    be_bytes_2 part n (length-slice m a (a + 2) (omega arith) le ∙ omega arith)
+    (λ i. at_index part i (taken (a + 2 - a) (drop a m) (dropped a m octets))) is
 
 pub four_below : (x : List ℕ) → AreOctets x → from_be_bytes w32 x < 2 ^ 32
 four_below x h = omega (arith, at_index x 0 h, at_index x 1 h, at_index x 2 h, at_index x 3 h)

@@ -1,19 +1,19 @@
 -- The numbers of a TSIG record that stands in octets, and the names there, fit their fields.
-use Rattle.std.proofs.Common.{◌≡◌, ℕ, ◌+◌, ◌*◌, ◌^◌, ◌<◌, ◌≤◌, Bool, true, false, cond, eqb, List, length, take, drop}
+use Rattle.std.proofs.Common.{◌≡◌, ℕ, ◌+◌, ◌^◌, ◌<◌, Bool, true, false, cond, eqb, List, length, take, drop}
 use Rattle.std.proofs.Common.{Option, Some, None, option_map, option_and_then, refl, sym, ap, subst, ◌∙◌, arith}
-use Rattle.std.specs.Int.{Width, w16, w32, byte_len, from_be_bytes}
+use Rattle.std.specs.Int.{w16, w32, from_be_bytes}
 use Rattle.std.proofs.lemmas.Bool.Decides.{Decides-eqb}
 use Rattle.std.proofs.lemmas.List.{length-take, length-drop}
 use Rattle.dns_wire.specs.Octets.{AreOctets}
 use Rattle.dns_wire.specs.Reading.{OctetsAt, NumberAt, TimeAt, CountedAt}
 use Rattle.dns_names.specs.Names.{IsName}
 use Rattle.dns_names.proofs.PlaceLaws.{name_of_octets}
-use Rattle.dns_grammar.specs.Fields.{Value, FieldsAt, row_of}
+use Rattle.dns_grammar.specs.Fields.{FieldsAt, row_of}
 use Rattle.dns_grammar.specs.RecordData.{tsig_type, RDataAt}
 use Rattle.dns_grammar.specs.Tables.{tsig_row}
-use Rattle.dns_grammar.specs.Messages.{ResourceRecord, Message, MessageAt, RecordAt, last_of, last_additional, TsigData}
+use Rattle.dns_grammar.specs.Messages.{ResourceRecord, Message, RecordAt, last_additional}
 use Rattle.dns_grammar.specs.Messages.{tsig_from_values, tsig_values, Signature, signature_with, signature_from}
-use Rattle.dns_grammar.specs.Messages.{signature_of, HasTsig}
+use Rattle.dns_grammar.specs.Messages.{HasTsig}
 use Rattle.dns_grammar.proofs.EachLaws.{each_last}
 use Rattle.dns_grammar.proofs.TsigLaws.{signature_whole}
 use Rattle.dns_rdata.specs.RDataTable.{rdata_table}

@@ -1,24 +1,22 @@
 -- Which requests can be signed, by the length of their TSIG record.
 use Rattle.std.proofs.Common.{◌≡◌, ◌≢◌, ℕ, ◌+◌, ◌-◌, ◌≤◌, ◌<◌, ◌^◌, Bool, true, false, cond, nat_lt, List, ◌++◌, length}
-use Rattle.std.proofs.Common.{Option, None, Result, Ok, Err, refl, sym, ap, ◌∙◌, arith, length-append, lt-ltb}
+use Rattle.std.proofs.Common.{Option, None, Result, Ok, Err, refl, sym, ap, ◌∙◌, arith, length-append}
 use Rattle.std.specs.Prelude.{nat_le, option_map, is_some}
 use Rattle.std.specs.Result.{result_ok}
 use Rattle.std.proofs.lemmas.Bool.{le-ltb, leb-true, leb-false}
 use Rattle.dns_wire.specs.declared.encoder.NameEncoding.TheVariants.{Uncompressed}
 use Rattle.dns_wire.specs.declared.error.EmitError.{EmitError}
 use Rattle.dns_wire.specs.declared.error.EmitError.TheVariants.{DataTooLong}
-use Rattle.dns_wire.specs.Octets.{two_octets, four_octets}
 use Rattle.dns_wire.specs.Reading.{◌>>=◌}
 use Rattle.dns_names.specs.Names.{wire}
 use Rattle.dns_grammar.specs.RecordData.{fitting}
-use Rattle.dns_grammar.specs.Messages.{TsigData}
 use Rattle.dns_grammar.specs.MessageWriting.{head_octets}
 use Rattle.sec_digest.specs.declared.hmac.HmacHash.{HmacHash}
 use Rattle.sec_digest.specs.declared.hmac.HmacHash.TheVariants.{Sha256, Sha384, Sha512}
-use Rattle.sec_digest.specs.Hmac.{hmac, mac_len}
-use Rattle.sec_sigdata.specs.TsigRecords.{TsigFields, fields_data}
+use Rattle.sec_digest.specs.Hmac.{mac_len}
+use Rattle.sec_sigdata.specs.TsigRecords.{fields_data}
 use Rattle.sec_sigdata.proofs.TsigData.{data_octets, data_written, data_length}
-use Rattle.sec_tsig.specs.Tsig.{TsigRecord, additional_count, resource_record, with_record, written_record}
+use Rattle.sec_tsig.specs.Tsig.{TsigRecord, additional_count, resource_record, written_record}
 use Rattle.sec_tsig.specs.Signers.{algorithm_name, Signer, request_record}
 use Rattle.sec_tsig.specs.Verdict.{Chain, first_chain}
 use Rattle.sec_tsig.specs.Requests.{is_request, request_record_len, signed_request}
@@ -47,7 +45,7 @@ record_written rr time mac other at_most =
     behind read = read >>= λ rdata. Ok (with_head rr rdata)
 
 -- names of algorithms and MACs are short
-short : (hash : HmacHash) → (length (wire (algorithm_name hash)) + 16 + mac_len hash ≤ 65535) × (mac_len hash ≤ 64)
+pub short : (hash : HmacHash) → (length (wire (algorithm_name hash)) + 16 + mac_len hash ≤ 65535) × (mac_len hash ≤ 64)
 short Sha256 = (omega arith, omega arith)
 short Sha384 = (omega arith, omega arith)
 short Sha512 = (omega arith, omega arith)

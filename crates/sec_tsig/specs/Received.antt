@@ -1,5 +1,5 @@
 -- What is answered of a message that was received.
-use Rattle.std.specs.Prelude.{ℕ, List, Bool, length, Option, Some, None, Result, Ok, Err}
+use Rattle.std.specs.Prelude.{ℕ, List, Bool, length, Option, Some, Result, Ok, Err}
 use Rattle.std.specs.Int.{w16, w32}
 use Rattle.dns_wire.specs.declared.error.DecodeError.{DecodeError}
 use Rattle.dns_wire.specs.Reading.{◌>>=◌, number_at}

@@ -1,6 +1,6 @@
 -- How an answer to a signed request is signed (RFC 8945 5.2, 5.3).
 use Rattle.std.specs.Prelude.{Bool, ℕ, ◌^◌, List, [], length, true, ◌||◌, nat_eq, nat_lt, if◌then◌else◌}
-use Rattle.std.specs.Prelude.{Option, Some, None, Result, Ok, Err}
+use Rattle.std.specs.Prelude.{Option, Some, Result, Ok, Err}
 use Rattle.dns_wire.specs.Octets.{six_octets}
 use Rattle.sec_sigdata.specs.declared.tsig_algorithm.TsigAlgorithm.TheVariants.{HmacSha256}
 use Rattle.sec_sigdata.specs.declared.tsig_error.TsigError.{TsigError}

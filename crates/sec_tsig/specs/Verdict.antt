@@ -1,5 +1,5 @@
 -- A chain of signed answers to one request, and the verdict on the next string of octets (RFC 8945 5.2 to 5.4).
-use Rattle.std.specs.Prelude.{◌≡◌, ℕ, ◌+◌, ◌-◌, ◌^◌, List, length, Bool, true, false, ◌&&◌, not, Option, Some, None}
+use Rattle.std.specs.Prelude.{ℕ, ◌+◌, ◌-◌, ◌^◌, List, length, Bool, true, false, ◌&&◌, not, Option, Some, None}
 use Rattle.std.specs.Prelude.{Result, Ok, Err, nat_lt, nat_le, if◌then◌else◌}
 use Rattle.std.specs.Str.{bytes_eq}
 use Rattle.dns_wire.specs.declared.error.DecodeError.{DecodeError}

@@ -1,6 +1,6 @@
 //! What is true of the definitions. Nothing calls these functions.
 ghost use Rattle.sec_tsig.specs.Laws.{VerdictIsByMessage, NoMessageIsDecode, ValidIsAccepted, AcceptedIsValid};
-ghost use Rattle.sec_tsig.specs.Laws.{InputHasOneReading};
+ghost use Rattle.sec_tsig.specs.Laws.{InputHasOneReading, RequestPasses, ResponsePasses, LaterPasses};
 
 use sec_digest::laws::length_of_hmac;
 
@@ -22,3 +22,24 @@ pub fn valid_is_accepted()
 pub fn input_one_reading()
     ensures { InputHasOneReading }
 {}
+
+/// A signed request passes its own check.
+pub fn request_passes()
+    ensures { RequestPasses }
+{
+    length_of_hmac();
+}
+
+/// A signed response passes a fresh verifier.
+pub fn response_passes()
+    ensures { ResponsePasses }
+{
+    length_of_hmac();
+}
+
+/// A later response passes next.
+pub fn later_passes()
+    ensures { LaterPasses }
+{
+    length_of_hmac();
+}
