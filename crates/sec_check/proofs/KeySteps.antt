@@ -1,45 +1,41 @@
 -- The keys of sets: two are equal in their order where they name one set.
-use Rattle.std.proofs.Common.{◌≡◌, refl, sym, ap, ◌∙◌, Bool, true, false, cond, not, ◌&&◌, ◌||◌, List, [], ◌∷◌, ◌++◌}
+use Rattle.std.proofs.Common.{◌≡◌, refl, sym, ap, ◌∙◌, Bool, true, false, cond, eqb, not, ◌&&◌, ◌||◌, List, [], ◌∷◌, ◌++◌}
 use Rattle.std.specs.List.{list_any}
 use Rattle.std.specs.BTreeSet.{BTreeSet, contains}
-use Rattle.std.specs.declared.cmp.Ordering.{Ordering}
-use Rattle.std.specs.declared.cmp.Ordering.TheVariants.{Less, Equal, Greater}
-use Rattle.std.specs.Ordering.{is_eq, ordering_then}
+use Rattle.std.specs.Ordering.{is_eq}
 use Rattle.std.specs.Cmp.{IsEquivalence, on_equiv, and_equiv, unsigned_ties}
-use Rattle.std.proofs.lemmas.Cmp.{lists_equiv, nat_eq_equiv}
+use Rattle.std.proofs.lemmas.Cmp.{nat_eq_equiv}
 use Rattle.std.proofs.lemmas.List.Folds.{list_any-append}
-use Rattle.dns_names.specs.Names.{low, same}
+use Rattle.dns_names.specs.Names.{same}
 use Rattle.dns_names.specs.NameLaws.{same_ties}
-use Rattle.sec_check.specs.declared.set_proof.SetProof.{SetProof}
-use Rattle.sec_check.specs.declared.set_proof.RrsetKey.{RrsetKey}
-use Rattle.sec_check.specs.RecordSets.{Knows, forms_rrset, key_cmp, key_of, same_set, section_number, with_new, with_set}
+use Rattle.sec_sign.specs.Pairs.{SetName}
+use Rattle.sec_check.specs.declared.rrset_key.RrsetKey.{RrsetKey}
+use Rattle.sec_check.specs.RecordSets.{same_set, with_new}
+use Rattle.sec_check.proofs.Orders.{and_same, both_equal, same_equiv}
+use Rattle.sec_check.specs.SectionRecords.{Knows, key_cmp, key_of}
 
-both_equal : (a b : Ordering) → is_eq (ordering_then a b) ≡ (is_eq a && is_eq b)
-both_equal Less b = refl
-both_equal Equal b = refl
-both_equal Greater b = refl
+turned : (c t s : Bool) → (c && (t && s)) ≡ (s && (c && t))
+turned true true true = refl
+turned true true false = refl
+turned true false true = refl
+turned true false false = refl
+turned false true true = refl
+turned false true false = refl
+turned false false true = refl
+turned false false false = refl
 
-and_same : (a b c d : Bool) → a ≡ c → b ≡ d → (a && b) ≡ (c && d)
-and_same a b c d e f = cc
-
-pub key_ties : (x y : SetProof) → is_eq (key_cmp (key_of x) (key_of y)) ≡ same_set x y
+pub key_ties : (x y : SetName) → is_eq (key_cmp (key_of x) (key_of y)) ≡ same_set x y
 key_ties x y =
     both_equal _ _
-    ∙ and_same _ _ _ _ (sym (unsigned_ties (section_number x.section) (section_number y.section)))
+    ∙ and_same _ _ _ _ (sym (unsigned_ties x.dns_class y.dns_class))
     (both_equal _ _
-    ∙ and_same _ _ _ _ (sym (same_ties x.owner y.owner))
-    (both_equal _ _ ∙ and_same _ _ _ _ (sym (unsigned_ties x.dns_class y.dns_class))
-    (sym (unsigned_ties x.rtype y.rtype))))
-
-same_equiv : IsEquivalence same
-same_equiv = on_equiv low (lists_equiv (lists_equiv nat_eq_equiv))
+    ∙ and_same _ _ _ _ (sym (unsigned_ties x.rtype y.rtype)) (sym (same_ties x.name y.name)))
+    ∙ turned (eqb x.dns_class y.dns_class) (eqb x.rtype y.rtype) (same x.name y.name)
 
 pub same_set_equiv : IsEquivalence same_set
 same_set_equiv =
-    and_equiv (on_equiv (λ (x : SetProof). section_number x.section) nat_eq_equiv)
-    (and_equiv (on_equiv (λ (x : SetProof). x.owner) same_equiv)
-    (and_equiv (on_equiv (λ (x : SetProof). x.dns_class) nat_eq_equiv)
-    (on_equiv (λ (x : SetProof). x.rtype) nat_eq_equiv)))
+    and_equiv (on_equiv (λ (x : SetName). x.name) same_equiv)
+    (and_equiv (on_equiv (λ (x : SetName). x.dns_class) nat_eq_equiv) (on_equiv (λ (x : SetName). x.rtype) nat_eq_equiv))
 
 -- what a test's negation says of the test
 not_back : (b c : Bool) → not b ≡ c → b ≡ not c
@@ -55,11 +51,11 @@ or_false true = refl
 or_false false = refl
 
 -- what is known before and after the key of k is put in
-module _ (k : SetProof) (key : RrsetKey) (is_key : key ≡ key_of k) (sets : List SetProof) (old new : BTreeSet RrsetKey)
+module _ (k : SetName) (key : RrsetKey) (is_key : key ≡ key_of k) (sets : List SetName) (old new : BTreeSet RrsetKey)
     (added : Bool) (is_new : added ≡ not (contains key_cmp old key))
     (puts : (q : RrsetKey) → contains key_cmp new q ≡ cond (is_eq (key_cmp key q)) true (contains key_cmp old q))
     (knows : Knows sets old) where
-  has : (q : SetProof) → contains key_cmp new (key_of q) ≡ cond (same_set k q) true (list_any (same_set q) sets)
+  has : (q : SetName) → contains key_cmp new (key_of q) ≡ cond (same_set k q) true (list_any (same_set q) sets)
   has q =
       puts (key_of q)
       ∙ ap (λ (j : RrsetKey). cond (is_eq (key_cmp j (key_of q))) true (contains key_cmp old (key_of q))) is_key
@@ -71,7 +67,7 @@ module _ (k : SetProof) (key : RrsetKey) (is_key : key ≡ key_of k) (sets : Lis
   was_there b h = sym (knows.all k) ∙ not_back (contains key_cmp old (key_of k)) b
       (ap (λ (j : RrsetKey). not (contains key_cmp old j)) (sym is_key) ∙ sym is_new ∙ h)
 
-  any_push : (q : SetProof) (b : Bool) → same_set q k ≡ b
+  any_push : (q : SetName) (b : Bool) → same_set q k ≡ b
       → list_any (same_set q) (sets ++ k ∷ []) ≡ (list_any (same_set q) sets || b)
   any_push q b e = list_any-append (same_set q) sets (k ∷ [])
       ∙ ap (λ (b : Bool). list_any (same_set q) sets || b) (or_false (same_set q k) ∙ e)
@@ -79,7 +75,7 @@ module _ (k : SetProof) (key : RrsetKey) (is_key : key ≡ key_of k) (sets : Lis
   pub knows_new : Knows (sets ++ k ∷ []) new
   knows_new = record { all = λ q. has q ∙ at_end q (same_set k q) refl }
     where
-      at_end : (q : SetProof) (b : Bool) → same_set k q ≡ b
+      at_end : (q : SetName) (b : Bool) → same_set k q ≡ b
           → cond (same_set k q) true (list_any (same_set q) sets) ≡ list_any (same_set q) (sets ++ k ∷ [])
       at_end q true h = rw h (sym (any_push q true (same_set_equiv.symm q k ∙ h)
           ∙ or_true (list_any (same_set q) sets)))
@@ -88,13 +84,10 @@ module _ (k : SetProof) (key : RrsetKey) (is_key : key ≡ key_of k) (sets : Lis
 
 -- ---- the list with one more set
 
-pub listed_known : (k : SetProof) (sets : List SetProof) → list_any (same_set k) sets ≡ true → sets ≡ with_set sets k
-listed_known k sets known = at (forms_rrset k.rtype)
-  where
-    at : (b : Bool) → sets ≡ cond b (with_new same_set sets k) sets
-    at true = rw known refl
-    at false = refl
+pub listed_known : (k : SetName) (sets : List SetName) → list_any (same_set k) sets ≡ true
+    → sets ≡ with_new same_set sets k
+listed_known k sets known = rw known refl
 
-pub listed_new : (k : SetProof) (sets : List SetProof) → forms_rrset k.rtype ≡ true → list_any (same_set k) sets ≡ false
-    → sets ++ k ∷ [] ≡ with_set sets k
-listed_new k sets listed new = rw (listed, new) refl
+pub listed_new : (k : SetName) (sets : List SetName) → list_any (same_set k) sets ≡ false
+    → sets ++ k ∷ [] ≡ with_new same_set sets k
+listed_new k sets new = rw new refl

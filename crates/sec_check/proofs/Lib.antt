@@ -1,3 +1,13 @@
 pub mod Firsts
+pub mod KeyPositions
 pub mod KeySteps
-pub mod SetLaws
+pub mod KeyVerdicts
+pub mod MarkLaws
+pub mod Orders
+pub mod Puts
+pub mod ReadRecords
+pub mod Reported
+pub mod SectionSets
+pub mod SectionSteps
+pub mod SetData
+pub mod Strongest

@@ -1,12 +1,22 @@
-//! What a checker reports of an answer: its record sets.
+//! Checking the answers to a signed request, and proving their record sets: what a checker reports of each answer.
 #![tactic(auto)]
 
+mod checker;
+mod key_name;
 pub mod laws;
-mod message_sets;
+mod mark;
+mod multimap;
+mod report;
+mod reporting;
+mod rrset_key;
 mod section;
+mod section_records;
 mod set_list;
 mod set_proof;
+mod trusted_keys;
 
-pub use message_sets::record_sets;
+pub use checker::Checker;
+pub use report::Report;
+pub use sec_tsig::VerifyError as CheckError;
 pub use section::Section;
 pub use set_proof::SetProof;

@@ -1,8 +1,6 @@
-//! The parts of a message in which records stand.
-ghost use Rattle.std.specs.Prelude.{◌≡◌};
-ghost use Rattle.sec_check.specs.RecordSets.{section_number};
+//! The sections of a message in which records stand.
 
-/// A part of a message in which records stand (RFC 1035 4.1).
+/// A section of a message in which records stand (RFC 1035 4.1).
 #[derive(Clone, Copy, Debug, PartialEq, Eq)]
 pub enum Section {
     /// The answers.
@@ -11,17 +9,4 @@ pub enum Section {
     Authority,
     /// The additional records.
     Additional,
-}
-
-impl Section {
-    /// Its place among the parts, from 0.
-    pub(crate) fn number(self) -> u8
-        ensures { result ≡ section_number self }
-    {
-        match self {
-            Section::Answer => 0,
-            Section::Authority => 1,
-            Section::Additional => 2,
-        }
-    }
 }

@@ -1,6 +1,6 @@
 //! A list of record sets, each once.
 
-use crate::set_proof::{RrsetKey, SetProof};
+use crate::rrset_key::RrsetKey;
 use dns_wire::OutOfMemory;
 use std::alloc::Global;
 use std::collections::BTreeSet;
@@ -9,25 +9,26 @@ use std::marker::Model;
 /// Record sets in the order in which they were first met. A contract sees the list alone.
 #[derive(Drop)]
 pub(crate) struct SetList {
-    sets: Vec<SetProof>,
+    sets: Vec<RrsetKey>,
     seen: BTreeSet<RrsetKey>,
 }
 
 impl Model for SetList {
-    ghost use Rattle.std.specs.Prelude.{List};
-    ghost use Rattle.sec_check.specs.declared.set_proof.SetProof.{SetProof};
-    ghost use Rattle.sec_check.specs.RecordSets.{Knows};
+    ghost use Rattle.std.specs.Prelude.{List, map};
+    ghost use Rattle.sec_sign.specs.Pairs.{SetName};
+    ghost use Rattle.sec_check.specs.SectionRecords.{Knows, name_of};
 
-    ghost Value = { List SetProof };
+    ghost Value = { List SetName };
 
-    ghost view = { λ s. s.sets.items };
+    ghost view = { λ s. map name_of s.sets.items };
 
-    ghost invariant = { λ s. Knows s.sets.items s.seen };
+    ghost invariant = { λ s. Knows (map name_of s.sets.items) s.seen };
 }
 
 impl SetList {
-    ghost use Rattle.std.specs.Prelude.{◌≡◌, [], IfOk};
-    ghost use Rattle.sec_check.specs.RecordSets.{with_set};
+    ghost use Rattle.std.specs.Prelude.{◌≡◌, [], map, IfOk};
+    ghost use Rattle.sec_check.specs.RecordSets.{same_set, with_new};
+    ghost use Rattle.sec_check.specs.SectionRecords.{name_of};
 
     pub(crate) fn new(alloc: Global) -> SetList
         ensures { result ≡ [] }
@@ -38,24 +39,21 @@ impl SetList {
         }
     }
 
-    /// Puts a set at the end, unless its records form no sets or it is there.
-    pub(crate) fn insert(mut self, set: SetProof) -> Result<SetList, OutOfMemory>
-        ensures { IfOk result (λ sets. sets ≡ with_set self set) }
+    /// Puts a set at the end, unless it is there.
+    pub(crate) fn insert(mut self, set: &RrsetKey) -> Result<SetList, OutOfMemory>
+        ensures { IfOk result (λ sets. sets ≡ with_new same_set self (name_of set.now)) }
     {
-        if !set.forms_rrset() {
+        if !self.seen.insert(*set)? {
             return Ok(self);
         }
-        if !self.seen.insert(set.key())? {
-            return Ok(self);
-        }
-        self.sets.push(set)?;
+        self.sets.push(*set)?;
         Ok(self)
     }
 
-    pub(crate) fn into_vec(self) -> Vec<SetProof>
-        ensures { result.items ≡ self }
+    /// The sets.
+    pub(crate) fn keys(&self) -> &[RrsetKey]
+        ensures { map name_of result.now ≡ self.now }
     {
-        let SetList { sets, seen: _ } = self;
-        sets
+        self.sets.as_slice()
     }
 }

@@ -1,0 +1,61 @@
+-- What is reported of an answer that is accepted.
+use Rattle.std.proofs.Common.{◌≡◌, refl, sym, ap, ◌∙◌, Bool, ℕ, List, Option, Result, Ok, Err}
+use Rattle.dns_wire.specs.declared.error.DecodeError.{DecodeError}
+use Rattle.dns_wire.specs.Reading.{◌>>=◌}
+use Rattle.dns_grammar.specs.Messages.{Message, message_at, signature_of}
+use Rattle.dns_message.specs.Parts.{parts_of}
+use Rattle.dns_rdata.specs.RDataTable.{rdata_table}
+use Rattle.sec_anchor.specs.Entries.{EntryData}
+use Rattle.sec_sign.specs.Verifying.{Relation}
+use Rattle.sec_tsig.specs.declared.verify_error.VerifyError.{VerifyError}
+use Rattle.sec_tsig.specs.declared.verify_error.VerifyError.TheVariants as causes
+use Rattle.sec_tsig.specs.Verdict.{Chain, judged, signature_verdict, verdict}
+use Rattle.sec_check.specs.declared.set_proof.SetProof.{SetProof}
+use Rattle.sec_check.specs.Marks.{Trust}
+use Rattle.sec_check.specs.Reports.{Answered, CheckerData, ReportData, answered, report_of, report_read, set_proofs}
+use Rattle.sec_check.specs.Reports.{told_error, told_time, trust_of}
+
+-- the report of a checker, by its parts
+pub reported : (accepts : Relation) (moment : ℕ) (checker : CheckerData) (chain : Chain) (entries : List EntryData)
+    → record { chain = chain; entries = entries } ≡ checker
+    → (first : Bool) → first ≡ chain.first → (message : Message) (report : ReportData) (sets : List SetProof)
+    (told : ℕ × Option ℕ)
+    → report ≡ record { sets = sets; tsig_error = told.0; server_time = told.1 }
+    → sets ≡ set_proofs record { accepts = accepts; moment = moment; entries = entries } (parts_of message)
+    → told ≡ (told_error first (signature_of message), told_time first (signature_of message))
+    → report ≡ report_of (trust_of checker accepts moment) checker.chain.first message
+reported accepts moment checker chain entries view first is_first message report sets told is sets_are told_is =
+    let trust : Trust = record { accepts = accepts; moment = moment; entries = entries } in
+    let parts : report ≡ report_of trust first message = is
+    ∙ (λ i. record { sets = sets_are i; tsig_error = (told_is i).0; server_time = (told_is i).1 }) in
+    parts
+    ∙ ap (λ (f : Bool). report_of trust f message) is_first
+    ∙ ap (λ (c : CheckerData). report_of (trust_of c accepts moment) c.chain.first message) view
+
+refused : (found : Result Chain VerifyError) (next : Chain) → found ≡ Ok next → found ≡ Err causes.Decode → ⊥
+refused (Ok chain) next accepted decode = absurd cc
+refused (Err cause) next accepted decode = absurd cc
+
+-- Where the verdict accepts octets, a message stands in them, and its report is what the answer comes to.
+pub accepted_report : (trust : Trust) (chain next : Chain) (octets : List ℕ) (report : ReportData)
+    → verdict chain octets ≡ Ok next
+    → ((message : Message) (e : ℕ) → message_at rdata_table octets ≡ Ok (message, e)
+    → report ≡ report_of trust chain.first message)
+    → answered trust chain octets ≡ Ok (report, next)
+accepted_report trust chain next octets report accepted reports = at (message_at rdata_table octets) refl
+  where
+    with_report : ReportData → Answered
+    with_report found = Ok (found, next)
+
+    read : Result (Message × ℕ) DecodeError
+    read = message_at rdata_table octets
+
+    at : (found : Result (Message × ℕ) DecodeError) → message_at rdata_table octets ≡ found
+        → answered trust chain octets ≡ Ok (report, next)
+    at (Ok x) is =
+        ap (λ (v : Result Chain VerifyError). v >>= λ n. Ok (report_read trust chain.first (message_at rdata_table octets), n))
+        accepted
+        ∙ ap (λ (r : Result (Message × ℕ) DecodeError). with_report (report_read trust chain.first r)) is
+        ∙ ap with_report (sym (reports x.0 x.1 is))
+    at (Err cause) is =
+        absurd (refused (verdict chain octets) next accepted (ap (judged (signature_verdict chain octets)) is))

@@ -1,0 +1,115 @@
+-- What a checker reports of the answers to a signed request, one behind the other.
+use Rattle.std.specs.Prelude.{◌≡◌, ◌⊎◌, Bool, ℕ, nat_eq, if◌then◌else◌, List, [], ◌++◌, length, map, Option, Some}
+use Rattle.std.specs.Prelude.{None, Result, Ok, Err}
+use Rattle.std.specs.Result.{result_ok}
+use Rattle.dns_wire.specs.declared.error.DecodeError.{DecodeError}
+use Rattle.dns_wire.specs.Reading.{◌>>=◌, time_at}
+use Rattle.dns_grammar.specs.Messages.{Message, ResourceRecord, Signature, message_at, signature_of}
+use Rattle.dns_message.specs.Parts.{Parts, parts_of}
+use Rattle.dns_rdata.specs.RDataTable.{rdata_table}
+use Rattle.sec_anchor.specs.Entries.{EntryData}
+use Rattle.sec_sign.specs.Pairs.{SetName}
+use Rattle.sec_sign.specs.Verifying.{Relation}
+use Rattle.sec_tsig.specs.declared.verify_error.VerifyError.{VerifyError}
+use Rattle.sec_tsig.specs.declared.verify_error.VerifyError.TheVariants as causes
+use Rattle.sec_tsig.specs.Verdict.{Chain, verdict}
+use Rattle.sec_check.specs.declared.section.Section.{Section}
+use Rattle.sec_check.specs.declared.section.Section.TheVariants as sections
+use Rattle.sec_check.specs.declared.set_proof.SetProof.{SetProof}
+use Rattle.sec_check.specs.Marks.{Trust, mark}
+use Rattle.sec_check.specs.RecordSets.{record_sets}
+
+-- ---- the record sets
+
+-- a set of a section's records with its mark
+abbrev pub set_proof : Trust → Section → List ResourceRecord → SetName → SetProof
+set_proof trust section records set = record {
+  section = section;
+  owner = set.name;
+  dns_class = set.dns_class;
+  rtype = set.rtype;
+  proof = mark trust records set;
+}
+
+-- the sets of a section's records, in order of first record
+abbrev pub section_proofs : Trust → Section → List ResourceRecord → List SetProof
+section_proofs trust section records = map (set_proof trust section records) (record_sets records)
+
+-- the sets of the three sections of a message in turn
+unfoldable pub set_proofs : Trust → Parts → List SetProof
+set_proofs trust parts =
+    section_proofs trust sections.Answer parts.answers
+    ++ section_proofs trust sections.Authority parts.authorities
+    ++ section_proofs trust sections.Additional parts.additionals
+
+-- ---- the transaction signature
+
+-- The number of the error that a first answer tells. The form of the MAC input of a later answer doesn't cover it
+-- (RFC 8945 5.3.1).
+abbrev pub told_error : Bool → Option Signature → ℕ
+told_error first None = 0
+told_error first (Some signature) = if first then signature.tsig.error else 0
+
+-- the number of the error BADTIME (RFC 8945 3)
+abbrev pub bad_time : ℕ
+bad_time = 18
+
+-- the time that octets are, where they are six (RFC 8945 5.2.3)
+abbrev pub time_of_octets : List ℕ → Option ℕ
+time_of_octets octets =
+    if nat_eq (length octets) 6 then result_ok (time_at octets 0 6 >>= λ time. Ok time.0) else None
+
+-- The server's time that a first answer with the error BADTIME tells in its other data (RFC 8945 5.2.3).
+abbrev pub told_time : Bool → Option Signature → Option ℕ
+told_time first None = None
+told_time first (Some signature) =
+    if nat_eq (told_error first (Some signature)) bad_time then time_of_octets signature.tsig.other else None
+
+-- ---- the report
+
+-- what a contract sees of a report: the record sets, the number of the TSIG error, the server's time
+pub record ReportData : Type 0 where
+  pub sets : List SetProof
+  pub tsig_error : ℕ
+  pub server_time : Option ℕ
+
+-- the report of a message, which may be the first answer
+abbrev pub report_of : Trust → Bool → Message → ReportData
+report_of trust first message = record {
+  sets = set_proofs trust (parts_of message);
+  tsig_error = told_error first (signature_of message);
+  server_time = told_time first (signature_of message);
+}
+
+-- the report of octets, by what reading them gives; a report of nothing where no message stands in them
+abbrev pub report_read : Trust → Bool → Result (Message × ℕ) DecodeError → ReportData
+report_read trust first (Ok read) = report_of trust first read.0
+report_read trust first (Err _) = record { sets = []; tsig_error = 0; server_time = None }
+
+-- What an answer comes to for a chain: the report and the chain behind it, or the cause for which it is refused, as the
+-- verdict says.
+abbrev pub Answered : Type 0
+Answered = Result (ReportData × Chain) VerifyError
+
+abbrev pub answered : Trust → Chain → List ℕ → Answered
+answered trust chain octets =
+    verdict chain octets >>= λ next. Ok (report_read trust chain.first (message_at rdata_table octets), next)
+
+-- ---- the checker
+
+-- what a contract sees of a checker: the chain of the answers accepted so far, and the trusted entries
+pub record CheckerData : Type 0 where
+  pub chain : Chain
+  pub entries : List EntryData
+
+-- what a checker trusts under a scheme at a moment
+abbrev pub trust_of : CheckerData → Relation → ℕ → Trust
+trust_of checker accepts moment = record { accepts = accepts; moment = moment; entries = checker.entries }
+
+-- The call answered what the answer comes to: a report, behind which the chain moved; or its cause, or want of memory,
+-- which left the checker as it was. The entries stay.
+abbrev pub AnswersAs : {X : Type 0} → (X → ReportData) → Result X VerifyError → CheckerData → CheckerData → Answered
+    → Type 0
+AnswersAs view (Ok report) old new given =
+    (given ≡ Ok (view report, new.chain)) × (new.entries ≡ old.entries)
+AnswersAs view (Err cause) old new given = ((cause ≡ causes.OutOfMemory) ⊎ (given ≡ Err cause)) × (new ≡ old)

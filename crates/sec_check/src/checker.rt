@@ -1,0 +1,92 @@
+//! Checking the answers to a signed request, and the record sets in them.
+
+use crate::report::Report;
+use crate::reporting::{set_proofs, told};
+use crate::trusted_keys::TrustedKeys;
+use dns_wire::OutOfMemory;
+use sec_anchor::Entry;
+use sec_codes::SignatureScheme;
+use sec_tsig::{TSigVerifier, VerifyError};
+use std::alloc::Global;
+use std::marker::Model;
+
+/// Checks the answers to a signed request, one behind the other, and proves their record sets by trusted entries. A
+/// contract sees the chain of the answers accepted so far, and the list of the entries.
+#[derive(Drop)]
+pub struct Checker {
+    alloc: Global,
+    verifier: TSigVerifier,
+    keys: TrustedKeys,
+}
+
+impl Model for Checker {
+    ghost use Rattle.sec_check.specs.Reports.{CheckerData};
+
+    ghost Value = { CheckerData };
+
+    ghost view = { λ s. record { chain = s.verifier; entries = s.keys } };
+}
+
+impl Checker {
+    ghost use Rattle.std.specs.Prelude.{◌≡◌, ℕ, Ok, map, IfOk};
+    ghost use Rattle.dns_grammar.specs.Messages.{Message as message_of_octets, message_at};
+    ghost use Rattle.dns_rdata.specs.RDataTable.{rdata_table};
+    ghost use Rattle.sec_anchor.specs.Entries.{entry_data};
+    ghost use Rattle.sec_check.specs.Reports.{AnswersAs, answered, report_of, trust_of};
+
+    /// A checker of the answers that the verifier is for, with these trusted entries. Entries that aren't well formed
+    /// prove nothing.
+    pub fn new(alloc: Global, verifier: TSigVerifier, entries: Vec<Entry>) -> Checker
+        ensures { result ≡ record { chain = verifier; entries = map entry_data entries.items } }
+    {
+        Checker {
+            alloc,
+            verifier,
+            keys: TrustedKeys::new(alloc, entries),
+        }
+    }
+
+    /// The report of octets, if they are the next answer.
+    fn report<S: SignatureScheme>(
+        &self,
+        scheme: &S,
+        moment: u32,
+        octets: &[u8],
+    ) -> Result<Report, OutOfMemory>
+        ensures { IfOk result (λ report. (message : message_of_octets) (e : ℕ)
+            → message_at rdata_table octets.now ≡ Ok (message, e)
+            → report ≡ report_of (trust_of self.now (S.accepts scheme.now) moment) self.now.chain.first message) }
+    {
+        let sets = set_proofs(self.alloc, scheme, moment, &self.keys, octets)?;
+        let (tsig_error, server_time) = told(self.verifier.is_first(), octets);
+        Ok(Report::new(sets, tsig_error, server_time))
+    }
+
+    /// Checks the next answer (RFC 8945 5.2 to 5.4) at a moment, a time in seconds from the start of 1970, and reports
+    /// its record sets. Where it is accepted the chain moves behind it.
+    ///
+    /// # Errors
+    ///
+    /// Those of `TSigVerifier::verdict`, or `OutOfMemory`. The checker then stays as it was.
+    pub fn answer<S: SignatureScheme>(
+        &mut self,
+        scheme: &S,
+        moment: u32,
+        octets: &[u8],
+    ) -> Result<Report, VerifyError>
+        ensures { AnswersAs (λ report. report) result self.old self.new
+            (answered (trust_of self.old (S.accepts scheme.now) moment) self.old.chain octets.now) }
+    {
+        let step = self.verifier.verdict(octets)?;
+        if self.keys.index(self.alloc).is_err() {
+            return Err(VerifyError::OutOfMemory);
+        }
+        match self.report(scheme, moment, octets) {
+            Ok(report) => {
+                self.verifier.advance(step);
+                Ok(report)
+            }
+            Err(OutOfMemory) => Err(VerifyError::OutOfMemory),
+        }
+    }
+}
