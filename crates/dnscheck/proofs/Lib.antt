@@ -2,3 +2,4 @@ pub mod ScriptLines
 pub mod RequestLength
 pub mod Signable
 pub mod AnswerLines
+pub mod Counting

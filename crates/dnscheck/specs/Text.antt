@@ -1,6 +1,7 @@
 -- The lines of the text, each with its line feed.
-use Rattle.std.specs.Prelude.{ℕ, List, ◌++◌, codes}
+use Rattle.std.specs.Prelude.{ℕ, nat_eq, if◌then◌else◌, List, [], ◌++◌, length, codes, Option, Some, None}
 use Rattle.std.specs.Fmt.{decimal}
+use Rattle.std.specs.List.{flat_map}
 use Rattle.dns_text.specs.HexText.{lower_hex}
 use Rattle.dns_names.specs.NameText.{name_text}
 use Rattle.dns_types.specs.Codes.{type_text, class_text}
@@ -8,6 +9,7 @@ use Rattle.sec_codes.specs.Proofs.{proof_text}
 use Rattle.sec_check.specs.declared.section.Section.{Section}
 use Rattle.sec_check.specs.declared.section.Section.TheVariants as sections
 use Rattle.sec_check.specs.declared.set_proof.SetProof.{SetProof}
+use Rattle.sec_check.specs.Reports.{ReportData}
 use Rattle.sec_tsig.specs.declared.verify_error.VerifyError.{VerifyError}
 use Rattle.sec_tsig.specs.declared.verify_error.VerifyError.TheVariants as causes
 use Rattle.dnscheck.specs.declared.error.Reason.{Reason}
@@ -20,6 +22,15 @@ request_text octets = codes "request " ++ lower_hex octets ++ codes "\n"
 -- an answer that is accepted, and how many sets it has
 abbrev pub accepted_text : ℕ → ℕ → List ℕ
 accepted_text number sets = codes "answer " ++ decimal number ++ codes " ok " ++ decimal sets ++ codes "\n"
+
+-- the time of the server that an answer tells (RFC 8945 5.2.3)
+abbrev pub time_text : Option ℕ → List ℕ
+time_text (Some time) = codes " " ++ decimal time
+time_text None = []
+
+-- the number of the error that the transaction signature of an accepted answer tells (RFC 8945 3); 0 is none
+abbrev pub tsig_text : ℕ → Option ℕ → List ℕ
+tsig_text error time = if nat_eq error 0 then [] else codes "tsig " ++ decimal error ++ time_text time ++ codes "\n"
 
 -- why an answer is refused (want of memory is no cause, and is never printed)
 abbrev pub cause_word : VerifyError → List ℕ
@@ -45,6 +56,12 @@ section_word sections.Additional = codes "ar"
 abbrev pub set_text : SetProof → List ℕ
 set_text set = section_word set.section ++ codes " " ++ name_text set.owner ++ codes " " ++ class_text set.dns_class
     ++ codes " " ++ type_text set.rtype ++ codes " " ++ proof_text set.proof ++ codes "\n"
+
+-- an answer that is accepted: a line for it, one for the error of its transaction signature where it tells one, and one
+-- for each of its sets
+abbrev pub report_text : ℕ → ReportData → List ℕ
+report_text number report = accepted_text number (length report.sets) ++ tsig_text report.tsig_error report.server_time
+    ++ flat_map set_text report.sets
 
 -- why a line of a script is faulty
 abbrev pub reason_word : Reason → List ℕ

@@ -1,19 +1,24 @@
 //! The program `dnscheck`: it reads a script with trusted entries, a key, a request and signed answers, signs the request
-//! and checks the answers, one behind the other.
+//! and checks the answers, one behind the other, and the signatures of the record sets in them.
 #![tactic(auto)]
 
 mod anchor;
+mod command;
 mod command_line;
+mod counts;
+mod demo;
 mod error;
 pub mod run;
 mod script;
 mod session;
 mod text;
 
+pub use command::Command;
 use command_line::{behind_program_name, exit_code, status_without_words};
 pub use dns_io::{
     Failed, MemSink, MemSource, PlainSource, Sink, Source, Status, StdSink, StdSource,
 };
+use sec_sign::KeyedHash;
 use std::process::ExitCode;
 use std::{env, io};
 
@@ -23,6 +28,7 @@ fn main(rt: HostRuntime) -> ExitCode {
         Ok(words) => run::run(
             rt.alloc(),
             behind_program_name(&words),
+            &KeyedHash,
             &mut StdSource::new(rt.reader()),
             &mut StdSink::new(io::writer(&rt)),
         ),

@@ -3,13 +3,13 @@
 ghost use Rattle.std.specs.Prelude.{◌≡◌, ◌++◌, OnOk};
 ghost use Rattle.std.specs.List.{flat_map};
 ghost use Rattle.std.specs.String.{string_bytes};
-ghost use Rattle.dnscheck.specs.Text.{request_text, accepted_text, refused_text, set_text, fault_text, section_word, cause_word};
+ghost use Rattle.dnscheck.specs.Text.{request_text, accepted_text, tsig_text, refused_text, set_text, report_text};
+ghost use Rattle.dnscheck.specs.Text.{fault_text, section_word, cause_word};
 
 use crate::error::Reason;
 use dns_text::LowerHex;
 use dns_wire::OutOfMemory;
-use sec_check::{Section, SetProof};
-use sec_tsig::VerifyError;
+use sec_check::{CheckError, Report, Section, SetProof};
 
 /// `request HEX`
 pub(crate) fn push_request(text: &mut String, octets: &[u8]) -> Result<(), OutOfMemory>
@@ -28,11 +28,25 @@ pub(crate) fn push_accepted(text: &mut String, number: u64, sets: usize) -> Resu
     Ok(())
 }
 
+/// `tsig E T`, or `tsig E` without a time; nothing where E is 0.
+pub(crate) fn push_tsig(text: &mut String, error: u16, time: Option<u64>) -> Result<(), OutOfMemory>
+    ensures { OnOk result (string_bytes text.new ≡ string_bytes text.old ++ tsig_text error time) }
+{
+    if error == 0 {
+        return Ok(());
+    }
+    match time {
+        Some(time) => writeln!(text, "tsig {error} {time}")?,
+        None => writeln!(text, "tsig {error}")?,
+    }
+    Ok(())
+}
+
 /// `answer K CAUSE`
 pub(crate) fn push_refused(
     text: &mut String,
     number: u64,
-    cause: VerifyError,
+    cause: CheckError,
 ) -> Result<(), OutOfMemory>
     ensures { OnOk result (string_bytes text.new ≡ string_bytes text.old ++ refused_text number cause) }
 {
@@ -41,7 +55,7 @@ pub(crate) fn push_refused(
     Ok(())
 }
 
-/// `SECTION OWNER CLASS TYPE PROOF`
+/// `PART NAME CLASS TYPE MARK`
 pub(crate) fn push_set(text: &mut String, set: &SetProof) -> Result<(), OutOfMemory>
     ensures { OnOk result (string_bytes text.new ≡ string_bytes text.old ++ set_text set.now) }
 {
@@ -65,6 +79,20 @@ pub(crate) fn push_sets(text: &mut String, sets: &[SetProof]) -> Result<(), OutO
     Ok(())
 }
 
+/// The lines of an answer that is accepted.
+pub(crate) fn push_report(
+    text: &mut String,
+    number: u64,
+    report: &Report,
+) -> Result<(), OutOfMemory>
+    ensures { OnOk result (string_bytes text.new ≡ string_bytes text.old ++ report_text number report.now) }
+{
+    let sets = report.sets();
+    push_accepted(text, number, sets.len())?;
+    push_tsig(text, report.tsig_error(), report.server_time())?;
+    push_sets(text, sets)
+}
+
 /// `fault LINE REASON`
 pub(crate) fn push_fault(text: &mut String, line: u64, reason: Reason) -> Result<(), OutOfMemory>
     ensures { OnOk result (string_bytes text.new ≡ string_bytes text.old ++ fault_text line reason) }
@@ -83,17 +111,17 @@ fn section_word(section: Section) -> &'static str
     }
 }
 
-fn cause_word(cause: VerifyError) -> &'static str
+fn cause_word(cause: CheckError) -> &'static str
     ensures { result.now ≡ cause_word cause }
 {
     match cause {
-        VerifyError::Decode => "Decode",
-        VerifyError::MissingTsig => "MissingTsig",
-        VerifyError::TsigWrongKey => "TsigWrongKey",
-        VerifyError::TruncatedMac => "TruncatedMac",
-        VerifyError::HmacInvalid => "HmacInvalid",
-        VerifyError::Outdated => "Outdated",
-        VerifyError::NotAResponse => "NotAResponse",
-        VerifyError::OutOfMemory => "OutOfMemory",
+        CheckError::Decode => "Decode",
+        CheckError::MissingTsig => "MissingTsig",
+        CheckError::TsigWrongKey => "TsigWrongKey",
+        CheckError::TruncatedMac => "TruncatedMac",
+        CheckError::HmacInvalid => "HmacInvalid",
+        CheckError::Outdated => "Outdated",
+        CheckError::NotAResponse => "NotAResponse",
+        CheckError::OutOfMemory => "OutOfMemory",
     }
 }

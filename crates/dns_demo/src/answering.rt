@@ -1,0 +1,122 @@
+//! The answers.
+ghost use Rattle.std.specs.Prelude.{◌≡◌, ◌≤◌, length, map, IfOk, if◌then◌else◌};
+ghost use Rattle.sec_tsig.specs.Tsig.{tsig_record};
+ghost use Rattle.dns_demo.specs.Demo.{answer, answers_from, demo_answers, demo_signer, mac_behind, request_mac};
+ghost use Rattle.dns_demo.specs.Demo.{unsigned_answer, with_tsig};
+
+use crate::messages::message;
+use crate::parts::{TIME, request, signer};
+use crate::records::{owner, records_under};
+use crate::signing::{answer_record, turn_mac_if};
+use dns_message::Record;
+use dns_wire::OutOfMemory;
+use sec_sigdata::TSIG;
+use sec_tsig::{TSigner, append_tsig};
+use std::alloc::Global;
+
+/// An answer before it is signed.
+#[tactic(auto, unfolding(crate::specs::Demo::unsigned_answer))]
+fn unsigned_answer(alloc: Global, number: u16) -> Result<Vec<u8>, OutOfMemory>
+    ensures exact { IfOk result (λ octets. octets.items ≡ unsigned_answer number) }
+    ensures header { IfOk result (λ octets. 12 ≤ length octets.items) }
+{
+    let records = records_under(alloc, owner(alloc, number)?, number)?;
+    message(alloc, 0x8180, Vec::new(alloc), records)
+}
+
+/// An answer with a TSIG record behind it.
+#[tactic(auto, unfolding(crate::specs::Demo::with_tsig))]
+fn with_tsig(mut octets: Vec<u8>, rr: &Record<TSIG>) -> Result<Vec<u8>, OutOfMemory>
+    requires { 12 ≤ length octets.items }
+    ensures { IfOk result (λ found. found.items ≡ with_tsig octets.items (tsig_record rr.now)) }
+{
+    match append_tsig(&mut octets, rr) {
+        Ok(()) => Ok(octets),
+        Err(_) => Err(OutOfMemory),
+    }
+}
+
+/// The MAC that the next answer is behind.
+fn mac_behind(is_wrong: bool, mac: Vec<u8>, rr: &Record<TSIG>) -> Result<Vec<u8>, OutOfMemory>
+    ensures { IfOk result (λ behind. behind.items
+        ≡ (if is_wrong then mac.items else (tsig_record rr.now).tsig.mac)) }
+{
+    if is_wrong {
+        Ok(mac)
+    } else {
+        Ok(rr.rdata.mac.clone()?)
+    }
+}
+
+/// An answer behind a MAC, and the MAC that the next one is behind.
+#[tactic(auto, unfolding(crate::specs::Demo::answer, crate::specs::Demo::mac_behind))]
+fn answer(
+    alloc: Global,
+    signer: &TSigner,
+    mac: Vec<u8>,
+    number: u16,
+) -> Result<(Vec<u8>, Vec<u8>), OutOfMemory>
+    requires { signer.now ≡ demo_signer }
+    ensures octets { IfOk result (λ found. found.0.items ≡ answer mac.items number) }
+    ensures behind { IfOk result (λ found. found.1.items ≡ mac_behind mac.items number) }
+{
+    let octets = unsigned_answer(alloc, number)?;
+    let rr = answer_record(
+        alloc,
+        signer,
+        mac.as_slice(),
+        number == 1,
+        octets.as_slice(),
+    )?;
+    let is_wrong = number % 4 == 0;
+    let behind = mac_behind(is_wrong, mac, &rr)?;
+    let answer = with_tsig(octets, &turn_mac_if(is_wrong, rr))?;
+    Ok((answer, behind))
+}
+
+/// The MAC of the signed request.
+#[tactic(auto, unfolding(crate::specs::Demo::request_mac))]
+fn request_mac(alloc: Global, signer: &TSigner) -> Result<Vec<u8>, OutOfMemory>
+    requires { signer.now ≡ demo_signer }
+    ensures { IfOk result (λ mac. mac.items ≡ request_mac) }
+{
+    let octets = request(alloc)?;
+    match signer.sign_octets(octets.as_slice(), TIME) {
+        Ok((rr, _)) => Ok(rr.rdata.mac),
+        Err(_) => Err(OutOfMemory),
+    }
+}
+
+/// So many answers, the first of them behind a MAC.
+#[tactic(auto, using(crate::proofs::Walks::steps))]
+fn answers_behind(
+    alloc: Global,
+    signer: &TSigner,
+    mut mac: Vec<u8>,
+    count: u16,
+) -> Result<Vec<Vec<u8>>, OutOfMemory>
+    requires { signer.now ≡ demo_signer }
+    ensures { IfOk result (λ answers. map (λ octets. octets.items) answers.items ≡ answers_from mac.items 1 count) }
+{
+    let mut answers = Vec::new(alloc);
+    'answers: for before in 0..count {
+        let (octets, behind) = answer(alloc, signer, mac, before + 1)?;
+        answers.push(octets)?;
+        mac = behind;
+    }
+    Ok(answers)
+}
+
+/// So many answers to the request, each behind those before it.
+///
+/// # Errors
+///
+/// Out of memory.
+#[tactic(auto, unfolding(crate::specs::Demo::demo_answers))]
+pub fn answers(alloc: Global, count: u16) -> Result<Vec<Vec<u8>>, OutOfMemory>
+    ensures { IfOk result (λ answers. map (λ octets. octets.items) answers.items ≡ demo_answers count) }
+{
+    let signer = signer(alloc)?;
+    let mac = request_mac(alloc, &signer)?;
+    answers_behind(alloc, &signer, mac, count)
+}
