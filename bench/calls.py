@@ -1,5 +1,5 @@
 #!/usr/bin/env python3
-"""Times single calls of the library: HMAC, digests, key tags, sets of types.
+"""Times single calls of the library: HMAC, digests, key tags, sets of types, signed sets of records, messages.
 
     bench/calls.py [RUNS]
 
@@ -20,11 +20,20 @@ ROOT = os.path.dirname(os.path.dirname(os.path.abspath(__file__)))
 PROGRAM = r"""//! Makes one call over and over: `calls CALL ROUNDS`.
 #![tactic(auto)]
 
+use anyhow::ensure;
+use dns_message::{Message, MessageView, Record};
 use dns_names::Name;
-use dns_types::{RecordType, RecordTypeSet};
-use dns_wire::BinDecoder;
+use dns_rdata::{DNSSECRData, RData};
+use dns_types::{DNSClass, RecordType, RecordTypeSet};
+use dns_wire::{BinDecoder, BinEncodable, BinEncoder, EmitError, SerialNumber};
+use sec_codes::{Algorithm, PublicKeyBuf};
 use sec_digest::{Digest, DigestType, Hmac, HmacHash, Nsec3HashAlgorithm};
 use sec_keydata::DNSKEY;
+use sec_sigdata::{RRSIG, SigInput};
+use sec_sign::{
+    CanonicalSet, KeyedHash, KeyedHashKey, PairVerdict, SigningKey, TBS, authenticates,
+    authenticates_set,
+};
 use std::alloc::Global;
 use std::env;
 use std::process::ExitCode;
@@ -124,6 +133,236 @@ fn goes_through(alloc: Global, rounds: u64) -> anyhow::Result<u64> {
     Ok(found)
 }
 
+/// The octets of the key that signs.
+const KEY: [u8; 32] = [1; 32];
+
+/// The DNSKEY of the key that signs.
+fn dnskey(alloc: Global) -> anyhow::Result<DNSKEY> {
+    let octets = Vec::from_slice(alloc, &KEY)?;
+    Ok(DNSKEY::with_flags(256, PublicKeyBuf::new(octets, Algorithm::ED25519)))
+}
+
+/// The fields of the RRSIG of a set of `example.`.
+fn input(alloc: Global, rtype: RecordType) -> anyhow::Result<SigInput> {
+    Ok(SigInput {
+        type_covered: rtype,
+        algorithm: Algorithm::ED25519,
+        num_labels: 1,
+        original_ttl: 3600,
+        sig_expiration: SerialNumber(2000),
+        sig_inception: SerialNumber(1000),
+        key_tag: dnskey(alloc)?.calculate_key_tag()?,
+        signer_name: Name::from_ascii("example.")?,
+    })
+}
+
+/// Numbers of 32 bits, no two the same and in no order.
+fn scattered(i: u32) -> [u8; 4] {
+    i.wrapping_mul(2_654_435_761).to_be_bytes()
+}
+
+/// 3,000 addresses of `example.`, in no order.
+fn addresses(alloc: Global) -> anyhow::Result<Vec<Record<RData>>> {
+    let name = Name::from_ascii("example.")?;
+    let mut records = Vec::new(alloc);
+    for i in 0..3_000u32 {
+        records.push(Record::from_rdata(name, 3600, RData::A(scattered(i))))?;
+    }
+    Ok(records)
+}
+
+/// The data of a TXT record, 200 octets of them.
+fn text(alloc: Global, i: u32) -> anyhow::Result<RData> {
+    let mut octets = Vec::from_slice(alloc, &[199u8])?;
+    octets.extend_from_slice(&scattered(i))?;
+    octets.resize(200, b'x')?;
+    let mut decoder = BinDecoder::new(&octets);
+    Ok(RData::read(alloc, &mut decoder, RecordType::TXT, 200)?)
+}
+
+/// 1,000 TXT records of `example.`, in no order.
+fn texts(alloc: Global) -> anyhow::Result<Vec<Record<RData>>> {
+    let name = Name::from_ascii("example.")?;
+    let mut records = Vec::new(alloc);
+    for i in 0..1_000u32 {
+        records.push(Record::from_rdata(name, 3600, text(alloc, i)?))?;
+    }
+    Ok(records)
+}
+
+/// The octets of a set that are signed.
+fn signed(alloc: Global, rtype: RecordType, records: &[Record<RData>]) -> anyhow::Result<TBS> {
+    let name = Name::from_ascii("example.")?;
+    let header = input(alloc, rtype)?;
+    Ok(TBS::from_input(alloc, &name, DNSClass::IN, &header, records)?)
+}
+
+/// The octets of a set that are signed, over and over.
+fn signs(
+    alloc: Global,
+    rtype: RecordType,
+    records: &[Record<RData>],
+    rounds: u64,
+) -> anyhow::Result<u64> {
+    let mut octets = 0u64;
+    for _ in 0..rounds {
+        octets = octets.wrapping_add(signed(alloc, rtype, records)?.as_slice().len() as u64);
+    }
+    Ok(octets)
+}
+
+/// The RRSIG of addresses.
+fn rrsig(alloc: Global, records: &[Record<RData>]) -> anyhow::Result<Record<RData>> {
+    let tbs = signed(alloc, RecordType::A, records)?;
+    let signature = KeyedHashKey::new(alloc, Algorithm::ED25519, &KEY)?.sign(&tbs)?;
+    let rrsig = RRSIG::from_sig(input(alloc, RecordType::A)?, signature);
+    let rdata = RData::DNSSEC(DNSSECRData::RRSIG(rrsig));
+    Ok(Record::from_rdata(Name::from_ascii("example.")?, 3600, rdata))
+}
+
+/// Addresses of `example.`, their RRSIG, and the key that made it.
+#[derive(Drop)]
+struct SignedSet {
+    name: Name,
+    records: Vec<Record<RData>>,
+    rrsig: Record<RData>,
+    key: DNSKEY,
+}
+
+/// The addresses and their RRSIG.
+fn signed_set(alloc: Global) -> anyhow::Result<SignedSet> {
+    let name = Name::from_ascii("example.")?;
+    let records = addresses(alloc)?;
+    let rrsig = rrsig(alloc, &records)?;
+    let key = dnskey(alloc)?;
+    Ok(SignedSet {
+        name,
+        records,
+        rrsig,
+        key,
+    })
+}
+
+/// Whether the signature of a set is right, the set's data being at hand.
+fn is_right_for_data(
+    alloc: Global,
+    set: &SignedSet,
+    data: &Result<CanonicalSet, EmitError>,
+) -> anyhow::Result<bool> {
+    let verdict = authenticates_set(
+        alloc,
+        &KeyedHash,
+        1500,
+        &set.name,
+        DNSClass::IN,
+        RecordType::A,
+        &set.rrsig,
+        &set.name,
+        DNSClass::IN,
+        &set.key,
+        data,
+    )?;
+    Ok(verdict == PairVerdict::Authentic)
+}
+
+/// Whether the signature of a set is right.
+fn is_right(alloc: Global, set: &SignedSet) -> anyhow::Result<bool> {
+    let verdict = authenticates(
+        alloc,
+        &KeyedHash,
+        1500,
+        &set.name,
+        DNSClass::IN,
+        RecordType::A,
+        &set.rrsig,
+        &set.name,
+        DNSClass::IN,
+        &set.key,
+        &set.records,
+    )?;
+    Ok(verdict == PairVerdict::Authentic)
+}
+
+/// The data of a set, or why there are none.
+fn data_of(alloc: Global, set: &SignedSet) -> anyhow::Result<Result<CanonicalSet, EmitError>> {
+    let (class, rtype) = (DNSClass::IN, RecordType::A);
+    let data = CanonicalSet::or_cause(alloc, &set.name, class, rtype, &set.records)?;
+    Ok(data)
+}
+
+/// Signatures of a set, whose data are made once. Each must be right.
+fn verdicts_for_data(alloc: Global, rounds: u64) -> anyhow::Result<u64> {
+    let set = signed_set(alloc)?;
+    let data = data_of(alloc, &set)?;
+    for _ in 0..rounds {
+        ensure!(is_right_for_data(alloc, &set, &data)?, "not right");
+    }
+    Ok(rounds)
+}
+
+/// The same where the data are made for each signature.
+fn verdicts(alloc: Global, rounds: u64) -> anyhow::Result<u64> {
+    let set = signed_set(alloc)?;
+    for _ in 0..rounds {
+        ensure!(is_right(alloc, &set)?, "not right");
+    }
+    Ok(rounds)
+}
+
+/// An answer of 65,529 octets: 4,094 addresses, whose owners are pointers to the question.
+fn answer(alloc: Global) -> anyhow::Result<Vec<u8>> {
+    let mut octets = Vec::from_slice(
+        alloc,
+        b"\x12\x34\x81\x80\x00\x01\x0f\xfe\x00\x00\x00\x00\x07example\x00\x00\x01\x00\x01",
+    )?;
+    for i in 0..4_094u32 {
+        octets.extend_from_slice(b"\xc0\x0c\x00\x01\x00\x01\x00\x00\x0e\x10\x00\x04")?;
+        octets.extend_from_slice(&scattered(i))?;
+    }
+    Ok(octets)
+}
+
+/// Views of the answer. Tells their ends, added.
+fn views(alloc: Global, rounds: u64) -> anyhow::Result<u64> {
+    let octets = answer(alloc)?;
+    let mut ends = 0u64;
+    for _ in 0..rounds {
+        match MessageView::parse(&octets) {
+            Ok(view) => ends = ends.wrapping_add(view.end() as u64),
+            Err(fault) => return Err(fault.into()),
+        }
+    }
+    Ok(ends)
+}
+
+/// The answer read into memory. Tells how many records were read.
+fn messages(alloc: Global, rounds: u64) -> anyhow::Result<u64> {
+    let octets = answer(alloc)?;
+    let mut count = 0u64;
+    for _ in 0..rounds {
+        let message = Message::from_vec(alloc, &octets)?;
+        count = count.wrapping_add(message.answers.len() as u64);
+    }
+    Ok(count)
+}
+
+/// The octets of a message.
+fn written(alloc: Global, message: &Message) -> anyhow::Result<usize> {
+    let mut encoder = BinEncoder::new(alloc);
+    message.emit(&mut encoder)?;
+    Ok(encoder.len())
+}
+
+/// The answer written. Tells how many octets were written.
+fn writes(alloc: Global, rounds: u64) -> anyhow::Result<u64> {
+    let message = Message::from_vec(alloc, &answer(alloc)?)?;
+    let mut octets = 0u64;
+    for _ in 0..rounds {
+        octets = octets.wrapping_add(written(alloc, &message)? as u64);
+    }
+    Ok(octets)
+}
+
 fn call(alloc: Global, words: &[String]) -> anyhow::Result<u64> {
     let [_, name, rounds] = words else {
         return Ok(0);
@@ -139,6 +378,13 @@ fn call(alloc: Global, words: &[String]) -> anyhow::Result<u64> {
         "sets" => sets(alloc, rounds),
         "reads" => reads(alloc, rounds),
         "goes_through" => goes_through(alloc, rounds),
+        "signs-a" => signs(alloc, RecordType::A, &addresses(alloc)?, rounds),
+        "signs-txt" => signs(alloc, RecordType::TXT, &texts(alloc)?, rounds),
+        "verdicts-for-data" => verdicts_for_data(alloc, rounds),
+        "verdicts" => verdicts(alloc, rounds),
+        "views" => views(alloc, rounds),
+        "messages" => messages(alloc, rounds),
+        "writes" => writes(alloc, rounds),
         _ => Ok(0),
     }
 }
@@ -157,6 +403,9 @@ fn main(rt: HostRuntime) -> ExitCode {
 }
 """
 
+# what the program uses
+USES = "dns_wire dns_names dns_types sec_codes sec_digest sec_keydata sec_sigdata dns_rdata dns_message sec_sign anyhow"
+
 # the call, its rounds, and what one round is
 CALLS = (
     ("hmac-sha256", 1_000, "HMAC-SHA-256 of 65,536 octets"),
@@ -168,6 +417,13 @@ CALLS = (
     ("sets", 1_000_000, "a set of seven types below 256"),
     ("reads", 1_000, "a set of all types read, its windows descending"),
     ("goes_through", 1_000, "going through all 65,536 types of it"),
+    ("signs-a", 100, "the octets signed of 3,000 addresses"),
+    ("signs-txt", 100, "the octets signed of 1,000 TXT records of 200 octets"),
+    ("verdicts-for-data", 500, "one of 500 signatures checked for 3,000 addresses, their data made once"),
+    ("verdicts", 500, "one of 500 signatures checked for 3,000 addresses, their data made each time"),
+    ("views", 1_000, "an answer of 65,529 octets viewed"),
+    ("messages", 1_000, "the answer read into memory"),
+    ("writes", 1_000, "the answer written"),
 )
 
 
@@ -177,7 +433,7 @@ def built(folder):
     with open(os.path.join(ROOT, "crates.txt"), encoding="utf-8") as file:
         lines = file.read()
     with open(os.path.join(folder, "crates.txt"), "w", encoding="utf-8") as file:
-        file.write(lines + "calls: dns_wire dns_names dns_types sec_digest sec_keydata anyhow\n")
+        file.write(lines + f"calls: {USES}\n")
     source = os.path.join(folder, "crates", "calls", "src")
     os.makedirs(source)
     with open(os.path.join(source, "main.rt"), "w", encoding="utf-8") as file:
