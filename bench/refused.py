@@ -5,7 +5,8 @@
 
 For N from FIRST on, by default 1, it runs `rt try --fail-alloc N` in crates/dnscheck over the stored script, JOBS runs at a
 time, by default 2, until a run meets no refusal. A run whose allocation is refused has to end with status 5 and an empty
-text, and the last one with the stored text. It proves nothing, and takes half a minute a run.
+text, and the last one with the stored text. It proves nothing, and takes half a minute a run. For calls of the libraries
+`rt try --test --fail-alloc N` in crates/memory_tests does the same.
 """
 
 import os
