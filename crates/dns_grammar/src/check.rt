@@ -96,8 +96,13 @@ fn skip_strings<'a>(mut reader: BinDecoder<'a>, end: usize) -> Result<BinDecoder
 }
 
 impl<T: TestedField> FieldForm<T> {
-    /// Skips the field, which ends at or before `end`.
-    fn skip(
+    /// Skips the field, which ends at or before `end`, a name through known jumps.
+    ///
+    /// # Errors
+    ///
+    /// `InsufficientBytes` where an octet is needed past the end, those of `Name::skip_with` for a name, and the fault
+    /// of a value that a tested field does not allow. The decoder then stays in place.
+    pub fn skip(
         &self,
         decoder: &mut BinDecoder<'_>,
         end: usize,

@@ -25,8 +25,12 @@ pub struct Header {
 
 impl Header {
     /// The header of a message, and the decoder behind it.
+    ///
+    /// # Errors
+    ///
+    /// `InsufficientBytes` for less than 12 octets.
     #[tactic(auto, unfolding(dns_grammar::specs::Messages::header_at))]
-    pub(crate) fn read(message: &[u8]) -> Result<(Header, BinDecoder<'_>), DecodeError>
+    pub fn read(message: &[u8]) -> Result<(Header, BinDecoder<'_>), DecodeError>
         ensures exact { Gives (λ x. (header_view x.0, place x.1)) result (header_at message.now) }
         ensures octets { IfOk result (λ x. octets x.1 ≡ message.now) }
         ensures place { IfOk result (λ x. place x.1 ≡ 12) }

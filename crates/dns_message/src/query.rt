@@ -69,9 +69,13 @@ impl BinEncodable for Query {
     }
 }
 
-/// Skips a question.
+/// Skips a question. A refused reading leaves the decoder.
+///
+/// # Errors
+///
+/// Those of `Name::skip_with` for the name, and `InsufficientBytes` where the octets end within type or class.
 #[tactic(auto, unfolding(dns_grammar::specs::Messages::query_at))]
-pub(crate) fn skip_query(decoder: &mut BinDecoder<'_>, jumps: &mut [u16]) -> Result<(), DecodeError>
+pub fn skip_query(decoder: &mut BinDecoder<'_>, jumps: &mut [u16]) -> Result<(), DecodeError>
     requires jumps { AreJumps (octets decoder.old) jumps.old }
     ensures jumps { AreJumps (octets decoder.old) jumps.new }
     ensures exact { Reads (λ x. x) result decoder.old decoder.new

@@ -11,19 +11,29 @@ use dns_wire::{BinDecoder, DecodeError};
 
 /// What stands before the data of a record.
 #[derive(Clone, Copy, Debug)]
-pub(crate) struct RecordHead {
+pub struct RecordHead {
+    /// Where the record starts.
     pub start: usize,
+    /// The owner.
     pub name: Name,
+    /// The type.
     pub rtype: RecordType,
+    /// The class.
     pub dns_class: DNSClass,
+    /// How many seconds the record may be kept.
     pub ttl: u32,
     /// How many octets the data have.
     pub length: u16,
 }
 
-/// Skips what stands before the data of a record, and gives its type and how many octets the data have.
+/// Skips what stands before the data of a record, and gives its type and how many octets the data have. A refused
+/// reading leaves the decoder.
+///
+/// # Errors
+///
+/// Those of `Name::skip_with` for the owner, and `InsufficientBytes` where the octets end within a number.
 #[tactic(auto, unfolding(dns_grammar::specs::Messages::head_at))]
-pub(crate) fn skip_head(
+pub fn skip_head(
     decoder: &mut BinDecoder<'_>,
     jumps: &mut [u16],
 ) -> Result<(RecordType, u16), DecodeError>
@@ -44,9 +54,14 @@ pub(crate) fn skip_head(
 }
 
 impl RecordHead {
-    /// Reads what stands before the data of a record, its name through known jumps.
+    /// Reads what stands before the data of a record, its name through known jumps. A refused reading leaves the
+    /// decoder.
+    ///
+    /// # Errors
+    ///
+    /// Those of `Name::read_with` for the owner, and `InsufficientBytes` where the octets end within a number.
     #[tactic(auto, unfolding(dns_grammar::specs::Messages::head_at))]
-    pub(crate) fn read_with(
+    pub fn read_with(
         decoder: &mut BinDecoder<'_>,
         jumps: &mut [u16],
     ) -> Result<RecordHead, DecodeError>

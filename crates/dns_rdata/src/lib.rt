@@ -24,6 +24,7 @@ pub use naptr::NAPTR;
 pub use null::NULL;
 pub use rdata::RData;
 pub use record_data::RecordData;
+pub use rows::{DataTest, rdata_fields};
 pub use soa::SOA;
 pub use srv::SRV;
 pub use txt::TXT;

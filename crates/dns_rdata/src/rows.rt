@@ -13,7 +13,7 @@ use sec_sigdata::{check_hash_algorithm, check_nsec3_flags};
 
 /// A field whose values are tested.
 #[derive(Clone, Copy, Debug)]
-pub(crate) enum DataTest {
+pub enum DataTest {
     /// The protocol of a DNSKEY, which is 3 (RFC 4034 2.1.2).
     DnskeyProtocol,
     /// The flags of a KEY (RFC 2535 3.1.2).
@@ -176,7 +176,7 @@ static TSIG: [FieldForm<DataTest>; 7] = [
 ];
 
 /// The fields of a type.
-pub(crate) fn rdata_fields(rtype: RecordType) -> &'static [FieldForm<DataTest>]
+pub fn rdata_fields(rtype: RecordType) -> &'static [FieldForm<DataTest>]
     ensures { form_fields tested_field result.now ≡ row_of rdata_table rtype }
 {
     match rtype {

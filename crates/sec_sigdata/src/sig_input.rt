@@ -36,8 +36,12 @@ pub struct SigInput {
 
 impl SigInput {
     /// Reads type covered, algorithm, labels, original TTL, expiration, inception, key tag and signer's name of data
-    /// that end at `end`, the name through known jumps.
-    pub(crate) fn read_with(
+    /// that end at `end`, the name through known jumps. A refused reading leaves the decoder.
+    ///
+    /// # Errors
+    ///
+    /// `InsufficientBytes` where the data end within a number, and those of `Name::read_with` for the signer's name.
+    pub fn read_with(
         decoder: &mut BinDecoder<'_>,
         end: usize,
         jumps: &mut [u16],

@@ -1,5 +1,6 @@
 pub mod Ascending
 pub mod Causes
+pub mod MessageSets
 pub mod Signed
 pub mod Signers
 pub mod Signing
