@@ -6,8 +6,8 @@ use Rattle.dns_text.specs.HexText.{lower_hex}
 use Rattle.dns_names.specs.NameText.{name_text}
 use Rattle.dns_types.specs.Codes.{type_text, class_text}
 use Rattle.sec_codes.specs.Proofs.{proof_text}
-use Rattle.sec_check.specs.declared.section.Section.{Section}
-use Rattle.sec_check.specs.declared.section.Section.TheVariants as sections
+use Rattle.dns_message.specs.declared.section.Section.{Section}
+use Rattle.dns_message.specs.declared.section.Section.TheVariants as sections
 use Rattle.sec_check.specs.declared.set_proof.SetProof.{SetProof}
 use Rattle.sec_check.specs.Reports.{ReportData}
 use Rattle.sec_tsig.specs.declared.verify_error.VerifyError.{VerifyError}

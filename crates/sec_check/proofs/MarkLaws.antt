@@ -15,17 +15,18 @@ use Rattle.dns_message.specs.OwnedMessages.{IsReadRecord}
 use Rattle.dns_message.specs.Parts.{record_view}
 use Rattle.sec_sign.specs.declared.pair.PairVerdict.{PairVerdict}
 use Rattle.sec_sign.specs.declared.pair.PairVerdict.TheVariants.{NotMet, NotAccepted, Authentic}
+use Rattle.sec_sign.specs.MessageSets.{same_set, set_octets}
 use Rattle.sec_sign.specs.Pairs.{SetName, SignatureRecord, ZoneKey, covers_set, record_verdict, rrsig_verdict}
 use Rattle.sec_sign.specs.Pairs.{signature_record}
 use Rattle.sec_sign.specs.Signed.{set_data}
 use Rattle.sec_sign.specs.Verifying.{Relation}
-use Rattle.sec_check.specs.Marks.{Trust, has_met, is_authentic, mark, mark_by, pair_verdict, set_octets}
+use Rattle.sec_check.specs.Marks.{Trust, has_met, is_authentic, mark, mark_by, pair_verdict}
 use Rattle.sec_check.specs.Marks.{signature_of_record, some_pair, stronger, strongest, strongest_on, strongest_pair}
 use Rattle.sec_check.specs.Marks.{zone_key}
 use Rattle.sec_check.specs.Reports.{set_proof}
-use Rattle.sec_check.specs.declared.section.Section.{Section}
+use Rattle.dns_message.specs.declared.section.Section.{Section}
 use Rattle.dns_grammar.specs.Messages.{ResourceRecord}
-use Rattle.sec_check.specs.RecordSets.{forms_rrset, same_set}
+use Rattle.sec_check.specs.RecordSets.{forms_rrset}
 use Rattle.sec_check.specs.SectionRecords.{covered_by, is_record_of, is_set, is_signature_of}
 use Rattle.sec_check.proofs.ReadRecords.{signature_by_fields}
 use Rattle.sec_check.proofs.SetData.{held_data}

@@ -17,9 +17,10 @@ use Rattle.dns_rdata.specs.RDataTable.{rdata_table}
 use Rattle.dns_rdata.proofs.TableLaws.{canon_of_type}
 use Rattle.dns_message.specs.declared.record.Record.{Record}
 use Rattle.dns_message.specs.Parts.{record_view}
+use Rattle.sec_sign.specs.MessageSets.{rrsig_from_values}
 use Rattle.sec_sign.specs.Pairs.{SignatureRecord, rrsig_of, signature_record}
 use Rattle.sec_sign.specs.Signed.{canonical}
-use Rattle.sec_check.specs.Marks.{rrsig_from_values, signature_of_record}
+use Rattle.sec_check.specs.Marks.{signature_of_record}
 
 -- ---- signatures
 

@@ -2,35 +2,32 @@
 use Rattle.std.proofs.Common.{◌≡◌, refl, sym, ap, ◌∙◌, Bool, ℕ, List, Option, Result, Ok, Err}
 use Rattle.dns_wire.specs.declared.error.DecodeError.{DecodeError}
 use Rattle.dns_wire.specs.Reading.{◌>>=◌}
-use Rattle.dns_grammar.specs.Messages.{Message, message_at, signature_of}
+use Rattle.dns_grammar.specs.Messages.{Message, message_at}
 use Rattle.dns_message.specs.Parts.{parts_of}
 use Rattle.dns_rdata.specs.RDataTable.{rdata_table}
 use Rattle.sec_anchor.specs.Entries.{EntryData}
 use Rattle.sec_sign.specs.Verifying.{Relation}
 use Rattle.sec_tsig.specs.declared.verify_error.VerifyError.{VerifyError}
 use Rattle.sec_tsig.specs.declared.verify_error.VerifyError.TheVariants as causes
+use Rattle.sec_tsig.specs.Told.{Told, told_by}
 use Rattle.sec_tsig.specs.Verdict.{Chain, judged, signature_verdict, verdict}
 use Rattle.sec_check.specs.declared.set_proof.SetProof.{SetProof}
 use Rattle.sec_check.specs.Marks.{Trust}
 use Rattle.sec_check.specs.Reports.{Answered, CheckerData, ReportData, answered, report_of, report_read, set_proofs}
-use Rattle.sec_check.specs.Reports.{told_error, told_time, trust_of}
+use Rattle.sec_check.specs.Reports.{trust_of}
 
 -- the report of a checker, by its parts
 pub reported : (accepts : Relation) (moment : ℕ) (checker : CheckerData) (chain : Chain) (entries : List EntryData)
     → record { chain = chain; entries = entries } ≡ checker
-    → (first : Bool) → first ≡ chain.first → (message : Message) (report : ReportData) (sets : List SetProof)
-    (told : ℕ × Option ℕ)
-    → report ≡ record { sets = sets; tsig_error = told.0; server_time = told.1 }
+    → (message : Message) (report : ReportData) (sets : List SetProof) (told : Told)
+    → report ≡ record { sets = sets; tsig_error = told.tsig_error; server_time = told.server_time }
     → sets ≡ set_proofs record { accepts = accepts; moment = moment; entries = entries } (parts_of message)
-    → told ≡ (told_error first (signature_of message), told_time first (signature_of message))
+    → told ≡ told_by checker.chain.first message
     → report ≡ report_of (trust_of checker accepts moment) checker.chain.first message
-reported accepts moment checker chain entries view first is_first message report sets told is sets_are told_is =
-    let trust : Trust = record { accepts = accepts; moment = moment; entries = entries } in
-    let parts : report ≡ report_of trust first message = is
-    ∙ (λ i. record { sets = sets_are i; tsig_error = (told_is i).0; server_time = (told_is i).1 }) in
-    parts
-    ∙ ap (λ (f : Bool). report_of trust f message) is_first
-    ∙ ap (λ (c : CheckerData). report_of (trust_of c accepts moment) c.chain.first message) view
+reported accepts moment checker chain entries view message report sets told is sets_are told_is =
+    is
+    ∙ (λ i. record { sets = sets_are i; tsig_error = (told_is i).tsig_error; server_time = (told_is i).server_time })
+    ∙ ap (λ (c : CheckerData). report_of (trust_of c accepts moment) checker.chain.first message) view
 
 refused : (found : Result Chain VerifyError) (next : Chain) → found ≡ Ok next → found ≡ Err causes.Decode → ⊥
 refused (Ok chain) next accepted decode = absurd cc

@@ -15,10 +15,10 @@ use Rattle.dns_message.specs.declared.record.Record.{Record}
 use Rattle.dns_message.specs.OwnedMessages.{IsReadRecord}
 use Rattle.dns_message.specs.Parts.{record_view}
 use Rattle.sec_sign.specs.Ascending.{ascending}
+use Rattle.sec_sign.specs.MessageSets.{same_set, set_octets, set_of}
 use Rattle.sec_sign.specs.Pairs.{SetName}
 use Rattle.sec_sign.specs.Signed.{canonical, canonical_each, chosen, for_each, is_of, set_data}
-use Rattle.sec_check.specs.Marks.{set_octets}
-use Rattle.sec_check.specs.RecordSets.{forms_rrset, same_set, set_of}
+use Rattle.sec_check.specs.RecordSets.{forms_rrset}
 use Rattle.sec_check.specs.SectionRecords.{is_record_of}
 use Rattle.sec_check.proofs.ReadRecords.{canonical_by_fields}
 

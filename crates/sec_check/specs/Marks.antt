@@ -5,43 +5,17 @@ use Rattle.std.specs.Prelude.{Result}
 use Rattle.std.specs.List.{list_any}
 use Rattle.dns_wire.specs.declared.error.EmitError.{EmitError}
 use Rattle.dns_types.specs.TypeNumbers as types
-use Rattle.dns_grammar.specs.Fields.{Value, Num, Str, Named}
 use Rattle.dns_grammar.specs.Messages.{ResourceRecord}
-use Rattle.dns_grammar.specs.RecordData.{canon}
-use Rattle.sec_codes.specs.Algorithms.{algorithm_numbered}
 use Rattle.sec_codes.specs.declared.proof.Proof.{Proof}
 use Rattle.sec_codes.specs.declared.proof.Proof.TheVariants.{Indeterminate, Bogus, Secure}
-use Rattle.sec_sigdata.specs.Signatures.{SigData}
-use Rattle.dns_rdata.specs.RDataTable.{rdata_table}
 use Rattle.sec_anchor.specs.Entries.{EntryData}
 use Rattle.sec_sign.specs.declared.pair.PairVerdict.{PairVerdict}
 use Rattle.sec_sign.specs.declared.pair.PairVerdict.TheVariants.{NotMet, NotAccepted, Authentic}
+use Rattle.sec_sign.specs.MessageSets.{rrsig_from_values, set_octets}
 use Rattle.sec_sign.specs.Pairs.{SetName, SignatureRecord, ZoneKey, record_verdict}
-use Rattle.sec_sign.specs.Signed.{data_of_set}
 use Rattle.sec_sign.specs.Verifying.{Relation}
-use Rattle.sec_check.specs.RecordSets.{same_set, set_of}
 
 -- ---- signatures, keys, sets
-
--- the data of an RRSIG by the values of its fields (RFC 4034 3.1)
-abbrev pub rrsig_from_values : Option (List Value) → Option SigData
-rrsig_from_values (Some (Num type_covered ∷ Num algorithm ∷ Num num_labels ∷ Num original_ttl ∷ Num sig_expiration
-    ∷ Num sig_inception ∷ Num key_tag ∷ Named signer_name ∷ Str sig ∷ [])) =
-    Some record {
-      input =
-          record {
-            type_covered = type_covered;
-            algorithm = algorithm_numbered algorithm;
-            num_labels = num_labels;
-            original_ttl = original_ttl;
-            sig_expiration = record { 0 = sig_expiration };
-            sig_inception = record { 0 = sig_inception };
-            key_tag = key_tag;
-            signer_name = signer_name;
-          };
-      sig = sig;
-    }
-rrsig_from_values _ = None
 
 -- a record as a signature of a set, which it is where its type is RRSIG and its data aren't empty
 abbrev pub signature_of_record : ResourceRecord → SignatureRecord
@@ -54,11 +28,6 @@ signature_of_record rr = record {
 -- an entry as a key of the zone that is its owner
 abbrev pub zone_key : EntryData → ZoneKey
 zone_key entry = record { owner = entry.name; dns_class = entry.dns_class; dnskey = entry.dnskey }
-
--- the data of a set among the records of a section in canonical form, in ascending order and each once
--- (RFC 4034 6.2, 6.3), or why there are none
-abbrev pub set_octets : SetName → List ResourceRecord → Result (List (List ℕ)) EmitError
-set_octets set = data_of_set (λ rr. same_set (set_of rr) set) (λ rr. canon rdata_table rr.rtype rr.rdata)
 
 -- ---- marks
 

@@ -1,9 +1,9 @@
 -- The record sets of a section of a message (RFC 2181 5).
 use Rattle.std.specs.Prelude.{Bool, ℕ, nat_eq, not, ◌&&◌, cond, List, [], ◌∷◌, ◌++◌, map}
 use Rattle.std.specs.List.{filter, list_any}
-use Rattle.dns_names.specs.Names.{same}
 use Rattle.dns_types.specs.TypeNumbers as types
 use Rattle.dns_grammar.specs.Messages.{ResourceRecord}
+use Rattle.sec_sign.specs.MessageSets.{same_set, set_of}
 use Rattle.sec_sign.specs.Pairs.{SetName}
 
 -- whether records of a type form sets here: all but signatures (RFC 2931, RFC 4034 3, RFC 8945) and OPT (RFC 6891 6.1)
@@ -13,14 +13,6 @@ forms_rrset rtype =
     && not (nat_eq rtype types.OPT)
     && not (nat_eq rtype types.RRSIG)
     && not (nat_eq rtype types.TSIG)
-
--- the same name, and equal class and type (RFC 2181 5)
-abbrev pub same_set : SetName → SetName → Bool
-same_set x y = same x.name y.name && (nat_eq x.dns_class y.dns_class && nat_eq x.rtype y.rtype)
-
--- the set that a record is of
-abbrev pub set_of : ResourceRecord → SetName
-set_of rr = record { name = rr.name; dns_class = rr.dns_class; rtype = rr.rtype }
 
 -- the sets of the records that form sets, one for each record
 abbrev pub listed : List ResourceRecord → List SetName

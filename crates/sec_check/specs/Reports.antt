@@ -1,10 +1,8 @@
 -- What a checker reports of the answers to a signed request, one behind the other.
-use Rattle.std.specs.Prelude.{◌≡◌, ◌⊎◌, Bool, ℕ, nat_eq, if◌then◌else◌, List, [], ◌++◌, length, map, Option, Some}
-use Rattle.std.specs.Prelude.{None, Result, Ok, Err}
-use Rattle.std.specs.Result.{result_ok}
+use Rattle.std.specs.Prelude.{◌≡◌, ◌⊎◌, Bool, ℕ, List, [], ◌++◌, map, Option, None, Result, Ok, Err}
 use Rattle.dns_wire.specs.declared.error.DecodeError.{DecodeError}
-use Rattle.dns_wire.specs.Reading.{◌>>=◌, time_at}
-use Rattle.dns_grammar.specs.Messages.{Message, ResourceRecord, Signature, message_at, signature_of}
+use Rattle.dns_wire.specs.Reading.{◌>>=◌}
+use Rattle.dns_grammar.specs.Messages.{Message, ResourceRecord, message_at}
 use Rattle.dns_message.specs.Parts.{Parts, parts_of}
 use Rattle.dns_rdata.specs.RDataTable.{rdata_table}
 use Rattle.sec_anchor.specs.Entries.{EntryData}
@@ -12,9 +10,10 @@ use Rattle.sec_sign.specs.Pairs.{SetName}
 use Rattle.sec_sign.specs.Verifying.{Relation}
 use Rattle.sec_tsig.specs.declared.verify_error.VerifyError.{VerifyError}
 use Rattle.sec_tsig.specs.declared.verify_error.VerifyError.TheVariants as causes
+use Rattle.sec_tsig.specs.Told.{told_by}
 use Rattle.sec_tsig.specs.Verdict.{Chain, verdict}
-use Rattle.sec_check.specs.declared.section.Section.{Section}
-use Rattle.sec_check.specs.declared.section.Section.TheVariants as sections
+use Rattle.dns_message.specs.declared.section.Section.{Section}
+use Rattle.dns_message.specs.declared.section.Section.TheVariants as sections
 use Rattle.sec_check.specs.declared.set_proof.SetProof.{SetProof}
 use Rattle.sec_check.specs.Marks.{Trust, mark}
 use Rattle.sec_check.specs.RecordSets.{record_sets}
@@ -42,29 +41,6 @@ set_proofs trust parts =
     ++ section_proofs trust sections.Authority parts.authorities
     ++ section_proofs trust sections.Additional parts.additionals
 
--- ---- the transaction signature
-
--- The number of the error that a first answer tells. The form of the MAC input of a later answer doesn't cover it
--- (RFC 8945 5.3.1).
-abbrev pub told_error : Bool → Option Signature → ℕ
-told_error first None = 0
-told_error first (Some signature) = if first then signature.tsig.error else 0
-
--- the number of the error BADTIME (RFC 8945 3)
-abbrev pub bad_time : ℕ
-bad_time = 18
-
--- the time that octets are, where they are six (RFC 8945 5.2.3)
-abbrev pub time_of_octets : List ℕ → Option ℕ
-time_of_octets octets =
-    if nat_eq (length octets) 6 then result_ok (time_at octets 0 6 >>= λ time. Ok time.0) else None
-
--- The server's time that a first answer with the error BADTIME tells in its other data (RFC 8945 5.2.3).
-abbrev pub told_time : Bool → Option Signature → Option ℕ
-told_time first None = None
-told_time first (Some signature) =
-    if nat_eq (told_error first (Some signature)) bad_time then time_of_octets signature.tsig.other else None
-
 -- ---- the report
 
 -- what a contract sees of a report: the record sets, the number of the TSIG error, the server's time
@@ -77,8 +53,8 @@ pub record ReportData : Type 0 where
 abbrev pub report_of : Trust → Bool → Message → ReportData
 report_of trust first message = record {
   sets = set_proofs trust (parts_of message);
-  tsig_error = told_error first (signature_of message);
-  server_time = told_time first (signature_of message);
+  tsig_error = (told_by first message).tsig_error;
+  server_time = (told_by first message).server_time;
 }
 
 -- the report of octets, by what reading them gives; a report of nothing where no message stands in them

@@ -1,12 +1,12 @@
 //! Checking the answers to a signed request, and the record sets in them.
 
 use crate::report::Report;
-use crate::reporting::{set_proofs, told};
+use crate::reporting::set_proofs;
 use crate::trusted_keys::TrustedKeys;
 use dns_wire::OutOfMemory;
 use sec_anchor::Entry;
 use sec_codes::SignatureScheme;
-use sec_tsig::{TSigVerifier, VerifyError};
+use sec_tsig::{ChainStep, TSigVerifier, VerifyError};
 use std::alloc::Global;
 use std::marker::Model;
 
@@ -32,6 +32,7 @@ impl Checker {
     ghost use Rattle.dns_grammar.specs.Messages.{Message as message_of_octets, message_at};
     ghost use Rattle.dns_rdata.specs.RDataTable.{rdata_table};
     ghost use Rattle.sec_anchor.specs.Entries.{entry_data};
+    ghost use Rattle.sec_tsig.specs.Told.{step_told, told_by};
     ghost use Rattle.sec_check.specs.Reports.{AnswersAs, answered, report_of, trust_of};
 
     /// A checker of the answers that the verifier is for, with these trusted entries. Entries that aren't well formed
@@ -46,20 +47,21 @@ impl Checker {
         }
     }
 
-    /// The report of octets, if they are the next answer.
+    /// The report of octets, if they are the next answer, by whose step the chain is to move.
     fn report<S: SignatureScheme>(
         &self,
         scheme: &S,
         moment: u32,
         octets: &[u8],
+        step: &ChainStep,
     ) -> Result<Report, OutOfMemory>
         ensures { IfOk result (λ report. (message : message_of_octets) (e : ℕ)
             → message_at rdata_table octets.now ≡ Ok (message, e)
+            → step_told step.now ≡ told_by self.now.chain.first message
             → report ≡ report_of (trust_of self.now (S.accepts scheme.now) moment) self.now.chain.first message) }
     {
         let sets = set_proofs(self.alloc, scheme, moment, &self.keys, octets)?;
-        let (tsig_error, server_time) = told(self.verifier.is_first(), octets);
-        Ok(Report::new(sets, tsig_error, server_time))
+        Ok(Report::new(sets, step.tsig_error(), step.server_time()))
     }
 
     /// Checks the next answer (RFC 8945 5.2 to 5.4) at a moment, a time in seconds from the start of 1970, and reports
@@ -81,7 +83,7 @@ impl Checker {
         if self.keys.index(self.alloc).is_err() {
             return Err(VerifyError::OutOfMemory);
         }
-        match self.report(scheme, moment, octets) {
+        match self.report(scheme, moment, octets, &step) {
             Ok(report) => {
                 self.verifier.advance(step);
                 Ok(report)

@@ -2,8 +2,9 @@
 ghost use Rattle.std.specs.Prelude.{◌≡◌, List};
 ghost use Rattle.std.specs.List.{IsDistinct, list_any};
 ghost use Rattle.dns_grammar.specs.Messages.{ResourceRecord};
+ghost use Rattle.sec_sign.specs.MessageSets.{same_set};
 ghost use Rattle.sec_sign.specs.Pairs.{SetName};
-ghost use Rattle.sec_check.specs.RecordSets.{listed, record_sets, same_set};
+ghost use Rattle.sec_check.specs.RecordSets.{listed, record_sets};
 
 /// A set is among those of a section exactly where a record is of it that forms sets, and no set is there twice.
 pub fn sets_are_those_of_records()

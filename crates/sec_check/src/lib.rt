@@ -9,14 +9,13 @@ mod multimap;
 mod report;
 mod reporting;
 mod rrset_key;
-mod section;
 mod section_records;
 mod set_list;
 mod set_proof;
 mod trusted_keys;
 
 pub use checker::Checker;
+pub use dns_message::Section;
 pub use report::Report;
 pub use sec_tsig::VerifyError as CheckError;
-pub use section::Section;
 pub use set_proof::SetProof;

@@ -1,33 +1,28 @@
 //! Making the report of an answer.
-ghost use Rattle.std.specs.Prelude.{◌≡◌, ◌++◌, true, nat_eq, if◌then◌else◌, map, List, ℕ, None, IfOk, Ok};
+ghost use Rattle.std.specs.Prelude.{◌≡◌, ◌++◌, true, map, List, ℕ, IfOk, Ok};
 ghost use Rattle.std.specs.List.{AllByRecursion};
-ghost use Rattle.dns_grammar.specs.Messages.{Message as message_of_octets, message_at, signature_of};
+ghost use Rattle.dns_grammar.specs.Messages.{Message as message_of_octets, message_at};
 ghost use Rattle.dns_rdata.specs.RDataTable.{rdata_table};
 ghost use Rattle.dns_rdata.specs.declared.rdata.RData.{RData as rdata};
 ghost use Rattle.dns_message.specs.declared.record.Record.{Record as resource_record};
 ghost use Rattle.dns_message.specs.OwnedMessages.{IsReadMessage, IsReadRecord};
 ghost use Rattle.dns_message.specs.Parts.{message_parts, parts_of, record_view};
 ghost use Rattle.sec_check.specs.RecordSets.{forms_rrset};
-ghost use Rattle.sec_check.specs.Reports.{bad_time, section_proofs, set_proof, set_proofs};
-ghost use Rattle.sec_check.specs.Reports.{time_of_octets, told_error, told_time};
+ghost use Rattle.sec_check.specs.Reports.{section_proofs, set_proof, set_proofs};
 ghost use Rattle.sec_check.specs.SectionRecords.{name_of};
 ghost use Rattle.sec_check.specs.Sections.{Holds};
 
 use crate::mark::mark;
 use crate::rrset_key::RrsetKey;
-use crate::section::Section;
 use crate::section_records::SectionRecords;
 use crate::set_proof::SetProof;
 use crate::trusted_keys::TrustedKeys;
-use dns_message::{Message, MessageView, Record};
+use dns_message::{Message, Record, Section};
 use dns_rdata::RData;
 use dns_types::{DNSClass, RecordType};
-use dns_wire::{BinDecoder, OutOfMemory};
+use dns_wire::OutOfMemory;
 use sec_codes::SignatureScheme;
 use std::alloc::Global;
-
-/// The number of the error BADTIME (RFC 8945 3).
-const BAD_TIME: u16 = 18;
 
 /// A set of a section with its mark.
 fn proof_of<S: SignatureScheme>(
@@ -165,47 +160,5 @@ pub(crate) fn set_proofs<S: SignatureScheme>(
     match Message::from_vec(alloc, octets) {
         Ok(message) => sets_of_message(alloc, scheme, moment, keys, message),
         Err(_) => Err(OutOfMemory),
-    }
-}
-
-/// The time that octets are, where they are six.
-fn time_of_octets(octets: &[u8]) -> Option<u64>
-    ensures { result ≡ time_of_octets octets.now }
-{
-    if octets.len() != 6 {
-        return None;
-    }
-    let mut decoder = BinDecoder::new(octets);
-    match decoder.read_time_within(6) {
-        Ok(time) => Some(time),
-        Err(_) => None,
-    }
-}
-
-/// The server's time that other data tell beside this error.
-fn time_with(error: u16, other: &[u8]) -> Option<u64>
-    ensures { result ≡ (if nat_eq error bad_time then time_of_octets other.now else None) }
-{
-    if error == BAD_TIME {
-        time_of_octets(other)
-    } else {
-        None
-    }
-}
-
-/// The number of the TSIG error and the server's time that octets tell, which may be a first answer.
-pub(crate) fn told(first: bool, octets: &[u8]) -> (u16, Option<u64>)
-    ensures { (message : message_of_octets) (e : ℕ) → message_at rdata_table octets.now ≡ Ok (message, e)
-        → result ≡ (told_error first (signature_of message), told_time first (signature_of message)) }
-{
-    if !first {
-        return (0, None);
-    }
-    let Ok(view) = MessageView::parse(octets) else {
-        return (0, None);
-    };
-    match view.tsig() {
-        None => (0, None),
-        Some(tsig) => (tsig.error, time_with(tsig.error, tsig.other)),
     }
 }

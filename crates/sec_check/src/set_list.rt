@@ -27,7 +27,8 @@ impl Model for SetList {
 
 impl SetList {
     ghost use Rattle.std.specs.Prelude.{◌≡◌, [], map, IfOk};
-    ghost use Rattle.sec_check.specs.RecordSets.{same_set, with_new};
+    ghost use Rattle.sec_sign.specs.MessageSets.{same_set};
+    ghost use Rattle.sec_check.specs.RecordSets.{with_new};
     ghost use Rattle.sec_check.specs.SectionRecords.{name_of};
 
     pub(crate) fn new(alloc: Global) -> SetList

@@ -1,6 +1,6 @@
 //! The record sets of a message, each with how far it is proved authentic.
 
-use crate::section::Section;
+use dns_message::Section;
 use dns_names::Name;
 use dns_types::{DNSClass, RecordType};
 use sec_codes::Proof;

@@ -20,7 +20,7 @@ use Rattle.sec_tsig.specs.Tsig.{TsigRecord, additional_count, join, sized, tsig_
 pub octets_of_record : (rr : Record TSIG) → written_record (tsig_record rr) ≡ written_tsig_record false Uncompressed rr
 octets_of_record rr = refl
 
-length-join : (octets behind : List ℕ) → 12 ≤ length octets
+pub length-join : (octets behind : List ℕ) → 12 ≤ length octets
     → length (join octets behind) ≡ length octets + length behind
 length-join octets behind le =
     simp (length-append, length-take, length-drop) (omega arith)

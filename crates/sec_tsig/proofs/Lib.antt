@@ -14,3 +14,4 @@ pub mod SignedRecords
 pub mod Passes
 pub mod Signable
 pub mod Transfers
+pub mod RequestRecords

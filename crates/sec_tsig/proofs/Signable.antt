@@ -24,7 +24,7 @@ use Rattle.sec_tsig.proofs.ByMessage.{HmacHasLength}
 use Rattle.sec_tsig.proofs.Joins.{many, long, joined}
 
 -- a record with these octets of data
-abbrev with_head : TsigRecord → List ℕ → List ℕ
+abbrev pub with_head : TsigRecord → List ℕ → List ℕ
 with_head rr rdata = head_octets Uncompressed (resource_record rr) (length rdata) ++ rdata
 
 head_length : (rr : TsigRecord) (n : ℕ) → length (head_octets Uncompressed (resource_record rr) n)
@@ -71,6 +71,19 @@ record_of has signer time octets below =
       size = length-append (head_octets Uncompressed (resource_record rr) (length rdata)) rdata
           ∙ omega (arith, head_length rr (length rdata), long, mac);
     }
+
+-- the record is written, and is as long as it is told
+pub record_is : HmacHasLength → (signer : Signer) (time : ℕ) (octets : List ℕ) → time < 2 ^ 48
+    → written_record (request_record signer time octets)
+    ≡ Ok (with_head (request_record signer time octets) (data_octets (fields_data (request_record signer time octets).tsig)))
+unfolding record_of
+record_is has signer time octets below = (record_of has signer time octets below).written
+
+pub record_size : HmacHasLength → (signer : Signer) (time : ℕ) (octets : List ℕ) → time < 2 ^ 48
+    → length (with_head (request_record signer time octets) (data_octets (fields_data (request_record signer time octets).tsig)))
+    ≡ request_record_len signer
+unfolding record_of
+record_size has signer time octets below = (record_of has signer time octets below).size
 
 -- ---- what octets come to
 

@@ -1,7 +1,9 @@
 pub mod InputBuffers
+pub mod RecordBuffers
 pub mod Tsig
 pub mod Signers
 pub mod Verdict
+pub mod Told
 pub mod Received
 pub mod Views
 pub mod MessageSigning

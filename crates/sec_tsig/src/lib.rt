@@ -2,6 +2,8 @@
 #![tactic(auto)]
 
 mod bitmessage;
+mod borrowed_signer;
+mod borrowed_verifier;
 mod chain_step;
 mod input_buffer;
 pub mod laws;
@@ -9,7 +11,10 @@ mod mac_check;
 mod mac_input;
 mod message_check;
 mod message_signing;
+mod record_buffer;
 mod request;
+mod request_error;
+mod request_signing;
 mod response_context;
 mod sign_error;
 mod signer;
@@ -21,8 +26,11 @@ mod verifier;
 mod verify_error;
 
 pub use bitmessage::signed_bitmessage_to_buf;
+pub use borrowed_signer::BorrowedSigner;
+pub use borrowed_verifier::BorrowedVerifier;
 pub use chain_step::ChainStep;
 pub use request::is_request;
+pub use request_error::RequestError;
 pub use response_context::TSigResponseContext;
 pub use sign_error::TsigSignError;
 pub use signer::TSigner;

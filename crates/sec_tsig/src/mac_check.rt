@@ -12,8 +12,8 @@ ghost use Rattle.dns_message.specs.Views.{header_view, tsig_view, tsig_view_data
 ghost use Rattle.sec_tsig.specs.Tsig.{IsCounted};
 ghost use Rattle.sec_tsig.specs.Verdict.{checked_mac, expected_mac, has_signers_key};
 
+use crate::borrowed_signer::BorrowedSigner;
 use crate::mac_input::take_received;
-use crate::signer::TSigner;
 use crate::verify_error::VerifyError;
 use dns_message::{Header, TsigView};
 use sec_digest::{HmacHash, Mac};
@@ -60,7 +60,7 @@ pub(crate) fn data_of<'a>(tsig: &TsigView<'a>) -> BorrowedTsig<'a>
     }
 }
 
-impl TSigner {
+impl BorrowedSigner<'_> {
     /// Whether a TSIG names the key and its algorithm.
     fn has_key_of(&self, tsig: &TsigView<'_>) -> bool
         requires { TsigViewFits tsig.now }

@@ -14,7 +14,7 @@ use sec_sigdata::BorrowedTsig;
 const CLASS_AND_TTL: [u8; 6] = [0, 255, 0, 0, 0, 0];
 
 #[tactic(auto, unfolding(crate::specs::Tsig::prior_mac))]
-fn take_mac<T: Takes>(taker: &mut T, mac: &[u8])
+pub(crate) fn take_mac<T: Takes>(taker: &mut T, mac: &[u8])
     requires { length mac.now < 2 ^ 16 }
     ensures { (purpose : T.Purpose) (m : List ℕ) → T.has_taken taker.old purpose m
         → T.has_taken taker.new purpose (m ++ prior_mac (Some mac.now)) }
@@ -50,7 +50,7 @@ fn take_message<T: Takes>(taker: &mut T, oid: u16, additionals: u16, octets: &[u
 }
 
 #[tactic(auto, unfolding(sec_sigdata::specs::TsigRecords::tsig_timers))]
-fn take_timers<T: Takes>(taker: &mut T, tsig: &BorrowedTsig<'_>)
+pub(crate) fn take_timers<T: Takes>(taker: &mut T, tsig: &BorrowedTsig<'_>)
     requires { tsig.now.time < 2 ^ 48 }
     ensures { (purpose : T.Purpose) (m : List ℕ) → T.has_taken taker.old purpose m
         → T.has_taken taker.new purpose (m ++ tsig_timers (borrowed_data tsig.now)) }
@@ -70,7 +70,7 @@ fn take_key_variables<T: Takes>(taker: &mut T, owner: &Name, tsig: &BorrowedTsig
 }
 
 #[tactic(auto, unfolding(sec_sigdata::specs::TsigRecords::error_variables))]
-fn take_error_variables<T: Takes>(taker: &mut T, tsig: &BorrowedTsig<'_>)
+pub(crate) fn take_error_variables<T: Takes>(taker: &mut T, tsig: &BorrowedTsig<'_>)
     requires { length tsig.now.other.now < 2 ^ 16 }
     ensures { (purpose : T.Purpose) (m : List ℕ) → T.has_taken taker.old purpose m
         → T.has_taken taker.new purpose (m ++ error_variables (borrowed_data tsig.now)) }

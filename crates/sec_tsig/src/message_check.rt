@@ -28,7 +28,9 @@ impl TSigner {
             (checked_byte self.now (option_copied previous.entry) first message.now (header_view header.now)
             (tsig_view tsig.now)) }
     {
-        let mac = self.checked_mac(previous, first, message, header, tsig)?;
+        let mac = self
+            .borrowed()
+            .checked_mac(previous, first, message, header, tsig)?;
         let mac = Vec::from_slice(self.alloc(), mac.as_slice())?;
         let fudge = u64::from(tsig.fudge);
         Ok((

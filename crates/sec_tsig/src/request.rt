@@ -2,6 +2,7 @@
 ghost use Rattle.std.specs.Prelude.{◌≡◌, ℕ, ◌≤◌, ◌<◌, ◌^◌, length, IsTrue, is_some};
 ghost use Rattle.sec_tsig.specs.Requests.{is_request, request_record_len, signed_request};
 
+use crate::borrowed_signer::BorrowedSigner;
 use crate::signer::TSigner;
 use crate::tsig_record::{MESSAGE_LIMIT, number_at};
 use dns_message::MessageView;
@@ -23,10 +24,11 @@ pub fn is_request(octets: &[u8]) -> bool
     }
 }
 
-impl TSigner {
+impl BorrowedSigner<'_> {
     /// How many octets the TSIG record of a request has.
-    fn request_record_len(&self) -> usize
-        ensures { result ≡ request_record_len self.now }
+    pub(crate) fn request_record_len(&self) -> usize
+        ensures value { result ≡ request_record_len self.now }
+        ensures at_most_512 { result ≤ 512 }
     {
         self.signer_name().len() + 10 + self.algorithm().to_name().len() + 16 + self.mac_len()
     }
@@ -45,5 +47,14 @@ impl TSigner {
             return false;
         }
         self.request_record_len() <= MESSAGE_LIMIT.saturating_sub(octets.len())
+    }
+}
+
+impl TSigner {
+    /// Whether octets are a request that this signer can sign (`BorrowedSigner::can_sign_request`).
+    pub fn can_sign_request(&self, octets: &[u8]) -> bool
+        ensures { (time : ℕ) → time < 2 ^ 48 → result ≡ is_some (signed_request self.now time octets.now) }
+    {
+        self.borrowed().can_sign_request(octets)
     }
 }

@@ -120,7 +120,7 @@ fn reply_with_error(
         signer,
         request_mac,
         response,
-        &signer.tsig_by(time, id, error, &[]),
+        &signer.borrowed().tsig_by(time, id, error, &[]),
     )
 }
 
@@ -140,7 +140,9 @@ fn reply_with_server_time(
         return Err(TsigSignError::TimeTooLarge);
     }
     let other = time_octets(server_time);
-    let tsig = signer.tsig_by(time, id, Some(TsigError::BadTime), &other);
+    let tsig = signer
+        .borrowed()
+        .tsig_by(time, id, Some(TsigError::BadTime), &other);
     signed_reply(signer, request_mac, response, &tsig)
 }
 
@@ -271,7 +273,9 @@ impl TSigResponseContext {
                 response,
             ),
             Reply::WrongMac(signer) => {
-                let tsig = signer.tsig_by(time, id, Some(TsigError::BadSig), &[]);
+                let tsig = signer
+                    .borrowed()
+                    .tsig_by(time, id, Some(TsigError::BadSig), &[]);
                 unsigned_reply(signer.alloc(), signer.signer_name(), &tsig)
             }
             Reply::WrongKey(alloc, owner) => reply_to_unknown_key(alloc, &owner, id, time),

@@ -1,21 +1,15 @@
 //! Signers.
-ghost use Rattle.std.specs.Prelude.{◌≡◌, ◌<◌, ◌^◌, [], IfOk, IfErr, true, false, length};
-ghost use Rattle.std.specs.Option.{option_copied, ForSome};
-ghost use Rattle.std.specs.Str.{bytes_eq};
+ghost use Rattle.std.specs.Prelude.{◌≡◌, IfOk, IfErr};
 ghost use Rattle.dns_wire.specs.Reading.{Gives};
-ghost use Rattle.dns_names.specs.Names.{wire};
-ghost use Rattle.sec_digest.specs.Hmac.{Feeds, hmac, mac_len};
-ghost use Rattle.sec_digest.specs.Mac.{mac_octets};
-ghost use Rattle.sec_sigdata.specs.TsigAlgorithms.{algorithm_name, algorithm_with, is_mac, tsig_algorithm_named};
-ghost use Rattle.sec_sigdata.specs.TsigRecords.{borrowed_data, borrowed_fields, fields_data, TsigFits};
-ghost use Rattle.sec_tsig.specs.Signers.{signer_of, signing_mac};
-ghost use Rattle.sec_tsig.specs.Tsig.{IsCounted, mac_input};
+ghost use Rattle.sec_digest.specs.Hmac.{hmac};
+ghost use Rattle.sec_sigdata.specs.TsigAlgorithms.{algorithm_with, is_mac};
+ghost use Rattle.sec_tsig.specs.Signers.{signer_of};
 
-use crate::mac_input::take_outgoing;
+use crate::borrowed_signer::BorrowedSigner;
 use dns_names::Name;
 use dns_wire::OutOfMemory;
-use sec_digest::{Hmac, HmacHash, Mac};
-use sec_sigdata::{BorrowedTsig, DnsSecError, TsigAlgorithm};
+use sec_digest::HmacHash;
+use sec_sigdata::{DnsSecError, TsigAlgorithm};
 use std::alloc::Global;
 use std::fmt;
 use std::marker::Model;
@@ -127,25 +121,11 @@ impl TSigner {
         *self.key.allocator()
     }
 
-    /// The hash function of the algorithm.
-    pub(crate) fn hash(&self) -> HmacHash
-        ensures { result ≡ self.now.algorithm }
+    /// The signer, its key and its name borrowed.
+    pub fn borrowed(&self) -> BorrowedSigner<'_>
+        ensures { result ≡ self.now }
     {
-        self.hash
-    }
-
-    /// A hasher of nothing under the key.
-    pub(crate) fn hasher(&self) -> Hmac
-        ensures { Feeds result self.now.algorithm self.now.key [] }
-    {
-        Hmac::new(self.hash, self.key.as_slice())
-    }
-
-    /// The number of octets of a MAC.
-    pub(crate) fn mac_len(&self) -> usize
-        ensures { result ≡ mac_len self.now.algorithm }
-    {
-        self.hash.output_len()
+        BorrowedSigner::new(self.key.as_slice(), self.hash, &self.name, self.fudge)
     }
 
     /// The MAC of octets: HMAC under the key (RFC 2104).
@@ -157,7 +137,7 @@ impl TSigner {
         ensures mac { IfOk result (λ mac. mac.items ≡ hmac self.now.algorithm self.now.key tbs.now) }
         ensures refused { IfErr result (λ cause. cause ≡ DnsSecError.OutOfMemory) }
     {
-        let mut hasher = self.hasher();
+        let mut hasher = self.borrowed().hasher();
         hasher.update(tbs);
         Ok(Vec::from_slice(self.alloc(), hasher.finish().as_slice())?)
     }
@@ -170,38 +150,12 @@ impl TSigner {
     pub fn verify(&self, tbv: &[u8], tag: &[u8]) -> Result<(), DnsSecError>
         ensures { result ≡ is_mac tag.now (hmac self.now.algorithm self.now.key tbv.now) }
     {
-        let mut hasher = self.hasher();
+        let mut hasher = self.borrowed().hasher();
         hasher.update(tbv);
         if hasher.verify(tag) {
             Ok(())
         } else {
             Err(DnsSecError::HmacInvalid)
         }
-    }
-
-    /// The MAC of octets that are sent with a TSIG record of these data.
-    pub(crate) fn signing_mac(
-        &self,
-        previous: Option<&[u8]>,
-        first: bool,
-        octets: &[u8],
-        tsig: &BorrowedTsig<'_>,
-    ) -> Mac
-        requires previous { ForSome (option_copied previous) IsCounted }
-        requires time { tsig.now.time < 2 ^ 48 }
-        requires other { length tsig.now.other.now < 2 ^ 16 }
-        ensures { mac_octets result ≡ signing_mac self.now (option_copied previous.entry) first octets.now
-            (borrowed_fields tsig.now) }
-    {
-        let mut hasher = self.hasher();
-        take_outgoing(
-            &mut hasher,
-            previous,
-            first,
-            octets,
-            self.signer_name(),
-            tsig,
-        );
-        hasher.finish()
     }
 }

@@ -4,7 +4,7 @@ ghost use Rattle.std.specs.Option.{option_copied, ForSome};
 ghost use Rattle.dns_wire.specs.Reading.{GivesUnless};
 ghost use Rattle.sec_sigdata.specs.TsigRecords.{borrowed_fields, TsigFits};
 ghost use Rattle.sec_tsig.specs.Tsig.{tsig_record, IsCounted};
-ghost use Rattle.sec_tsig.specs.Signers.{tsig_by, signing_record, signed_later};
+ghost use Rattle.sec_tsig.specs.Signers.{signing_record, signed_later};
 ghost use Rattle.sec_tsig.specs.Verdict.{signed_octets};
 
 use crate::sign_error::TsigSignError;
@@ -12,7 +12,7 @@ use crate::signer::TSigner;
 use crate::tsig_record::{number_at, record_with_mac};
 use crate::verifier::TSigVerifier;
 use dns_message::Record;
-use sec_sigdata::{BorrowedTsig, TSIG, TsigError};
+use sec_sigdata::{BorrowedTsig, TSIG};
 use std::alloc::AllocError;
 
 /// The first time that has no room in a TSIG record.
@@ -22,27 +22,6 @@ pub(crate) const TIME_LIMIT: u64 = 1 << 48;
 pub(crate) const COUNTED_LIMIT: usize = 65535;
 
 impl TSigner {
-    /// The data of a TSIG by this signer, without a MAC.
-    pub(crate) fn tsig_by<'a>(
-        &self,
-        time: u64,
-        oid: u16,
-        error: Option<TsigError>,
-        other: &'a [u8],
-    ) -> BorrowedTsig<'a>
-        ensures { borrowed_fields result ≡ tsig_by self.now time oid error other.now }
-    {
-        BorrowedTsig {
-            algorithm: *self.algorithm(),
-            time,
-            fudge: self.fudge(),
-            mac: &[],
-            oid,
-            error,
-            other,
-        }
-    }
-
     /// The record that signs octets with these data.
     pub(crate) fn signing_record(
         &self,
@@ -57,7 +36,7 @@ impl TSigner {
         ensures { IfOk result (λ rr. tsig_record rr ≡ signing_record self.now (option_copied previous.entry) first
             octets.now (borrowed_fields tsig.now)) }
     {
-        let mac = self.signing_mac(previous, first, octets, tsig);
+        let mac = self.borrowed().signing_mac(previous, first, octets, tsig);
         record_with_mac(self.alloc(), self.signer_name(), tsig, mac.as_slice())
     }
 
@@ -79,8 +58,9 @@ impl TSigner {
         if current_time >= TIME_LIMIT {
             return Err(TsigSignError::TimeTooLarge);
         }
-        let tsig = self.tsig_by(current_time, number_at(octets, 0), None, &[]);
-        let mac = self.signing_mac(None, true, octets, &tsig);
+        let signer = self.borrowed();
+        let tsig = signer.tsig_by(current_time, number_at(octets, 0), None, &[]);
+        let mac = signer.signing_mac(None, true, octets, &tsig);
         let rr = record_with_mac(self.alloc(), self.signer_name(), &tsig, mac.as_slice())?;
         let verifier = TSigVerifier::new(self.try_clone()?, current_time, mac);
         Ok((rr, verifier))
@@ -108,7 +88,7 @@ impl TSigner {
         if previous_mac.len() > COUNTED_LIMIT {
             return Err(TsigSignError::MacTooLong);
         }
-        let tsig = self.tsig_by(time, request_id, None, &[]);
+        let tsig = self.borrowed().tsig_by(time, request_id, None, &[]);
         Ok(self.signing_record(Some(previous_mac), false, response, &tsig)?)
     }
 }

@@ -1,16 +1,18 @@
 //! Checking the answers to a signed request.
-ghost use Rattle.std.specs.Prelude.{◌≡◌, ◌≢◌, true, Some, Err, IfOk};
-ghost use Rattle.std.specs.Option.{ForSome, option_copied};
+ghost use Rattle.std.specs.Prelude.{◌≡◌, ◌≢◌, ℕ, true, Ok, Err, IfOk};
 ghost use Rattle.dns_wire.specs.Reading.{Gives};
+ghost use Rattle.dns_grammar.specs.Messages.{Message as message_of_octets, message_at};
+ghost use Rattle.dns_rdata.specs.RDataTable.{rdata_table};
 ghost use Rattle.sec_digest.specs.Mac.{mac_octets};
-ghost use Rattle.dns_message.specs.Views.{header_view, tsig_view, IsPlaced, TsigViewFits};
+ghost use Rattle.sec_tsig.specs.Told.{step_told, told_by};
 ghost use Rattle.sec_tsig.specs.Views.{stepped, IsResponseOf, MovesChain, MovesChainUnless};
-ghost use Rattle.sec_tsig.specs.Verdict.{is_in_time, signature_verdict, verdict};
+ghost use Rattle.sec_tsig.specs.Verdict.{verdict};
 
+use crate::borrowed_verifier::BorrowedVerifier;
 use crate::chain_step::ChainStep;
 use crate::signer::TSigner;
 use crate::verify_error::VerifyError;
-use dns_message::{DnsResponse, Header, MessageView, TsigView};
+use dns_message::DnsResponse;
 use sec_digest::Mac;
 use std::marker::Model;
 
@@ -67,65 +69,32 @@ impl TSigVerifier {
         self.first
     }
 
-    /// Whether a message was signed no earlier than the last one, and the request was sent within its window.
-    fn is_in_time(&self, tsig: &TsigView<'_>) -> bool
-        requires { TsigViewFits tsig.now }
-        ensures { result ≡ is_in_time self.now (tsig_view tsig.now) }
+    /// The chain, its signer and its MAC borrowed.
+    fn borrowed(&self) -> BorrowedVerifier<'_>
+        ensures { result ≡ self.now }
     {
-        let fudge = u64::from(tsig.fudge);
-        self.time <= tsig.time
-            && tsig.time.saturating_sub(fudge) <= self.request_time
-            && self.request_time < tsig.time + fudge
+        BorrowedVerifier::new(
+            self.signer.borrowed(),
+            self.request_time,
+            self.mac.as_slice(),
+            self.time,
+            self.first,
+        )
     }
 
-    /// The verdict on a message with this TSIG.
-    #[tactic(auto, unfolding(crate::specs::Verdict::signature_verdict))]
-    fn signature_verdict(
-        &self,
-        octets: &[u8],
-        header: &Header,
-        tsig: &TsigView<'_>,
-    ) -> Result<ChainStep, VerifyError>
-        requires { IsPlaced octets.now header.now tsig.now }
-        ensures exact { Gives (λ step. stepped self.now step) result
-            (signature_verdict self.now octets.now (header_view header.now) (tsig_view tsig.now)) }
-        ensures never { result ≢ Err VerifyError.OutOfMemory }
-    {
-        let previous = Some(self.mac.as_slice());
-        let mac = self
-            .signer
-            .checked_mac(previous, self.first, octets, header, tsig)?;
-        if !self.is_in_time(tsig) {
-            return Err(VerifyError::Outdated);
-        }
-        if header.flags < 0x8000 {
-            return Err(VerifyError::NotAResponse);
-        }
-        Ok(ChainStep {
-            mac,
-            time: tsig.time,
-        })
-    }
-
-    /// The verdict on octets (RFC 8945 5.2 to 5.4): by what they would move the chain, which stays as it is. It takes
-    /// no memory.
+    /// The verdict on octets (RFC 8945 5.2 to 5.4): by what they would move the chain, which stays as it is, and what
+    /// they tell. It takes no memory.
     ///
     /// # Errors
     ///
-    /// `Decode` where the octets are no message, more than 65,535 octets among them; octets behind the message are no
-    /// fault. Then `MissingTsig`, `TsigWrongKey`, `TruncatedMac`, `HmacInvalid`, `Outdated` or `NotAResponse`, the first
-    /// that holds. Never `OutOfMemory`.
+    /// Those of `BorrowedVerifier::verdict`. Never `OutOfMemory`.
     pub fn verdict(&self, octets: &[u8]) -> Result<ChainStep, VerifyError>
         ensures verdict { Gives (λ step. stepped self.now step) result (verdict self.now octets.now) }
+        ensures told { IfOk result (λ step. (message : message_of_octets) (e : ℕ)
+            → message_at rdata_table octets.now ≡ Ok (message, e) → step_told step ≡ told_by self.now.first message) }
         ensures never { result ≢ Err VerifyError.OutOfMemory }
     {
-        let Ok(view) = MessageView::parse(octets) else {
-            return Err(VerifyError::Decode);
-        };
-        match view.tsig() {
-            None => Err(VerifyError::MissingTsig),
-            Some(tsig) => self.signature_verdict(octets, &view.header(), &tsig),
-        }
+        self.borrowed().verdict(octets)
     }
 
     /// Moves the chain behind an answer on which the verdict gave this step.

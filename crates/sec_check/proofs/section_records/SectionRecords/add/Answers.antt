@@ -1,8 +1,9 @@
 use Rattle.std.proofs.Common.{rules, ◌≡◌, refl, true, false, Some, None}
 use Rattle.dns_rdata.specs.RData.{rdata_type}
+use Rattle.sec_sign.specs.MessageSets.{same_set, set_of}
 use Rattle.sec_sign.specs.Pairs.{SetName, signature_record}
 use Rattle.sec_check.specs.Indexes.{values_at}
-use Rattle.sec_check.specs.RecordSets.{forms_rrset, same_set, set_of, with_new}
+use Rattle.sec_check.specs.RecordSets.{forms_rrset, with_new}
 use Rattle.sec_check.specs.SectionRecords.{covered_set, key_cmp, name_of}
 use Rattle.sec_check.proofs.SectionSteps.{IsPut, with_other, with_record, with_signature}
 use Rattle.sec_check.proofs.section_records.SectionRecords.add.Goals as goal

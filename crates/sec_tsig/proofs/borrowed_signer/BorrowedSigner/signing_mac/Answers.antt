@@ -3,7 +3,7 @@ use Rattle.std.specs.Option.{option_copied}
 use Rattle.sec_digest.specs.Hmac.{hmac}
 use Rattle.sec_sigdata.specs.TsigRecords.{borrowed_data}
 use Rattle.sec_tsig.specs.Tsig.{mac_input}
-use Rattle.sec_tsig.proofs.signer.TSigner.signing_mac.Goals as goal
+use Rattle.sec_tsig.proofs.borrowed_signer.BorrowedSigner.signing_mac.Goals as goal
 
 pub returns : goal.returns
 returns c =

@@ -3,7 +3,7 @@ use Rattle.std.specs.Option.{option_copied}
 use Rattle.dns_grammar.specs.Messages.{TsigData}
 use Rattle.sec_digest.specs.Hmac.{hmac}
 use Rattle.sec_tsig.specs.Tsig.{mac_input, message_without_tsig}
-use Rattle.sec_tsig.proofs.signer.TSigner.expected_mac.Goals as goal
+use Rattle.sec_tsig.proofs.borrowed_signer.BorrowedSigner.expected_mac.Goals as goal
 
 pub returns : goal.returns
 returns c =
