@@ -1,0 +1,5 @@
+pub mod Slices
+pub mod CopySteps
+pub mod RecordSteps
+pub mod WalkSteps
+pub mod RecordsKnown
