@@ -1,0 +1,9 @@
+pub mod Rooms
+pub mod Headers
+pub mod RrsigSteps
+pub mod Records
+pub mod MessageSteps
+pub mod InputSteps
+pub mod SetSteps
+pub mod AnswerSteps
+pub mod PlaceLists

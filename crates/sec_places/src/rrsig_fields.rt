@@ -1,0 +1,60 @@
+//! The fields of an RRSIG before its signature, read in the octets of its message.
+ghost use Rattle.std.specs.Prelude.{◌≡◌, ◌≤◌, length};
+ghost use Rattle.dns_wire.specs.Reading.{Gives};
+ghost use Rattle.dns_names.specs.Jumps.{AreJumps};
+ghost use Rattle.dns_places.specs.Places.{places_at, record_from};
+ghost use Rattle.sec_places.specs.Walks.{input_found, input_read};
+
+use crate::input_error::InputError;
+use dns_grammar::data_end;
+use dns_message::RecordHead;
+use dns_places::{RecordWalk, empty_table};
+use dns_types::RecordType;
+use dns_wire::BinDecoder;
+use sec_sigdata::SigInput;
+
+/// The fields before the signature of the record that starts at `start`, where that is an RRSIG whose data aren't
+/// empty.
+#[tactic(auto, using(crate::proofs::RrsigSteps::early_exits))]
+fn read_input(message: &[u8], start: usize, jumps: &mut [u16]) -> Option<SigInput>
+    requires inside { start ≤ length message.now }
+    requires jumps { AreJumps message.now jumps.old }
+    ensures { result ≡ input_read (record_from message.now start) }
+{
+    let mut reader = BinDecoder::new(message);
+    reader.set_index(start);
+    match RecordHead::read_with(&mut reader, jumps) {
+        Ok(head) => {
+            if head.rtype != RecordType::RRSIG {
+                return None;
+            }
+            match data_end(&reader, head.length) {
+                Ok(end) => match SigInput::read_with(&mut reader, end, jumps) {
+                    Ok(input) => Some(input),
+                    Err(_) => None,
+                },
+                Err(_) => None,
+            }
+        }
+        Err(_) => None,
+    }
+}
+
+/// The fields before the signature of the RRSIG that starts at `start`.
+///
+/// `NoMessage` where no message stands in the octets, and `NoRrsig` where no RRSIG starts there, or it has no data.
+#[tactic(auto, using(crate::proofs::InputSteps::walk_steps))]
+pub(crate) fn find_input(message: &[u8], start: usize) -> Result<SigInput, InputError>
+    ensures { Gives (λ input. input) result (input_found message.now start (places_at message.now)) }
+{
+    let Ok(mut walk) = RecordWalk::new(message) else {
+        return Err(InputError::NoMessage);
+    };
+    let mut jumps = empty_table();
+    'records: while let Some(place) = walk.next(&mut jumps) {
+        if place.start == start {
+            return read_input(message, start, &mut jumps).ok_or(InputError::NoRrsig);
+        }
+    }
+    Err(InputError::NoRrsig)
+}
