@@ -1,0 +1,4 @@
+pub mod TextLengths
+pub mod WireNames
+pub mod PlacesPut
+pub mod ChainsKept
