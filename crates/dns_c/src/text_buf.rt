@@ -1,8 +1,8 @@
 //! The text of a name, without memory.
 ghost use Rattle.std.specs.Prelude.{◌≡◌, ◌+◌, ◌≤◌, [], ◌++◌, length};
-ghost use Rattle.dns_names.specs.NameText.{is_special, octet_text, label_text, name_text};
+ghost use Rattle.dns_names.specs.NameText.{octet_text, label_text, name_text};
 
-use dns_names::Name;
+use dns_names::{Name, is_special};
 use std::marker::Model;
 
 /// How many octets the text of a name has at most: four for each octet of its labels, and a dot for each label.
@@ -99,14 +99,4 @@ impl TextBuf {
     {
         &self.octets[..self.len]
     }
-}
-
-/// Whether a backslash stands before the octet.
-fn is_special(octet: u8) -> bool
-    ensures { result ≡ is_special octet }
-{
-    matches!(
-        octet,
-        b'.' | b'\\' | b'"' | b'(' | b')' | b';' | b'@' | b'$'
-    )
 }

@@ -17,4 +17,4 @@ pub use jumps::with_jumps;
 pub use label::Label;
 pub use lower_name::LowerName;
 pub use name::{LabelIter, Name};
-pub use text::NameWithoutDot;
+pub use text::{NameWithoutDot, is_special};

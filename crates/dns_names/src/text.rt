@@ -28,8 +28,9 @@ impl fmt::Display for OctetText {
     }
 }
 
-/// Whether the octet stands behind a backslash.
-fn is_special(octet: u8) -> bool
+/// Whether a backslash stands before the octet in the text of a label (RFC 1035 5.1), as before a dot, a backslash, a
+/// quote, a parenthesis, a semicolon, an at sign and a dollar sign.
+pub fn is_special(octet: u8) -> bool
     ensures { result ≡ is_special octet }
 {
     matches!(
