@@ -100,6 +100,10 @@ steps_are m section owner k p = steps_read m section owner k p (message_at rdata
 -- ---- where they end
 
 module _ (m : List ℕ) (section : Section) (owner : List (List ℕ)) (k p : ℕ) where
+  pub no_message : (fault : DecodeError) → places_at m ≡ Err fault
+      → signed_input m section owner k p ≡ Err causes.NoMessage
+  no_message fault is = sym (steps_are m section owner k p) ∙ ap (by_steps m section owner k p) is
+
   pub no_input : (cause : InputError) → input_found m p (places_at m) ≡ Err cause
       → signed_input m section owner k p ≡ Err cause
   no_input cause found =
@@ -130,4 +134,4 @@ module _ (m : List ℕ) (section : Section) (owner : List (List ℕ)) (k p : ℕ
           → signed_input m section owner k p ≡ Ok (signed_octets above input k cs)
       all_found cs is = owner_is_shown ∙ ap (with_data input k above) is
 
-pub ruleset endings = (no_input, more_labels, no_data, all_found)
+pub ruleset endings = (no_message, no_input, more_labels, no_data, all_found)

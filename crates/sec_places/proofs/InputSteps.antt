@@ -1,10 +1,8 @@
 -- The RRSIG that is looked for, record by record.
-use Rattle.std.proofs.Common.{◌≡◌, ℕ, true, false, eqb, List, [], ◌∷◌, None, Ok, Err, refl, sym, ap}
+use Rattle.std.proofs.Common.{◌≡◌, ℕ, true, false, eqb, List, [], ◌∷◌, None, Ok, refl, sym, ap}
 use Rattle.std.proofs.Common.{◌∙◌}
-use Rattle.dns_wire.specs.declared.error.DecodeError.{DecodeError}
 use Rattle.dns_places.specs.declared.record_place.RecordPlace.{RecordPlace}
 use Rattle.dns_places.specs.Places.{places_at, record_from}
-use Rattle.sec_places.specs.declared.input_error.InputError.TheVariants as causes
 use Rattle.sec_places.specs.Walks.{input_among, input_found, input_or_cause, input_read}
 use Rattle.sec_places.proofs.MessageSteps.{each_stands}
 
@@ -22,8 +20,4 @@ module _ (m : List ℕ) (p : ℕ) (left rest : List RecordPlace) (place : Record
 pub starts_nowhere : (m : List ℕ) (p : ℕ) (left : List RecordPlace) → left ≡ [] → input_among m p left ≡ None
 starts_nowhere m p left is = ap (input_among m p) is
 
-pub no_message : (m : List ℕ) (p : ℕ) (fault : DecodeError) → places_at m ≡ Err fault
-    → input_found m p (places_at m) ≡ Err causes.NoMessage
-no_message m p fault is = ap (input_found m p) is
-
-pub ruleset walk_steps = (among_all, starts_elsewhere, starts_here, starts_nowhere, no_message, each_stands)
+pub ruleset walk_steps = (among_all, starts_elsewhere, starts_here, starts_nowhere, each_stands)

@@ -3,7 +3,6 @@ use Rattle.std.proofs.Common.{◌≡◌, ℕ, true, false, List, [], ◌∷◌, 
 use Rattle.std.specs.Prelude.{IsErr, is_ok}
 use Rattle.std.specs.Result.{result_unwrap_or}
 use Rattle.std.specs.BTreeSet.{insert_key}
-use Rattle.dns_wire.specs.declared.error.DecodeError.{DecodeError}
 use Rattle.dns_wire.specs.Reading.{◌>>=◌}
 use Rattle.dns_message.specs.declared.section.Section.{Section}
 use Rattle.dns_places.specs.declared.data_error.DataError.{DataError}
@@ -94,8 +93,4 @@ pub none_left : (m : List ℕ) (section : Section) (set : SetName) (left : List 
 none_left m section set left so_far is =
     ap (λ (places : List RecordPlace). put_each so_far (data_of_each m section set places)) is
 
-pub no_message : (m : List ℕ) (section : Section) (set : SetName) (fault : DecodeError) → places_at m ≡ Err fault
-    → data_found m section set (places_at m) ≡ Err causes.NoMessage
-no_message m section set fault is = ap (data_found m section set) is
-
-pub ruleset set_steps = (from_none, passes_over, takes, stops, none_left, no_message, each_stands, few_places, short_message)
+pub ruleset set_steps = (from_none, passes_over, takes, stops, none_left, each_stands, few_places, short_message)

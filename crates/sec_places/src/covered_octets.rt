@@ -8,6 +8,7 @@ use crate::set_places::places_of_set;
 use crate::signed_octets::put_signed;
 use dns_message::Section;
 use dns_names::Name;
+use dns_places::RecordWalk;
 use dns_types::DNSClass;
 use sec_sign::determine_name;
 
@@ -33,10 +34,13 @@ pub fn signed_input(
 ) -> Result<usize, InputError>
     ensures { FillsRoom result out.old out.new (signed_input message.now section owner.now dns_class start) }
 {
-    let input = find_input(message, start)?;
+    let Ok(walk) = RecordWalk::new(message) else {
+        return Err(InputError::NoMessage);
+    };
+    let input = find_input(message, walk.copied(), start)?;
     let Ok(shown) = determine_name(owner, input.num_labels) else {
         return Err(InputError::LabelsExceedOwner);
     };
-    let places = places_of_set(message, section, owner, dns_class, input.type_covered)?;
+    let places = places_of_set(message, walk, section, owner, dns_class, input.type_covered)?;
     Ok(put_signed(message, &shown, dns_class, &input, places.as_slice(), out))
 }

@@ -1,5 +1,5 @@
 //! The fields of an RRSIG before its signature, read in the octets of its message.
-ghost use Rattle.std.specs.Prelude.{◌≡◌, ◌≤◌, length};
+ghost use Rattle.std.specs.Prelude.{◌≡◌, ◌≤◌, Ok, length};
 ghost use Rattle.dns_wire.specs.Reading.{Gives};
 ghost use Rattle.dns_names.specs.Jumps.{AreJumps};
 ghost use Rattle.dns_places.specs.Places.{places_at, record_from};
@@ -40,16 +40,19 @@ fn read_input(message: &[u8], start: usize, jumps: &mut [u16]) -> Option<SigInpu
     }
 }
 
-/// The fields before the signature of the RRSIG that starts at `start`.
+/// The fields before the signature of the RRSIG that starts at `start`, found by a walk over all records of the message.
 ///
-/// `NoMessage` where no message stands in the octets, and `NoRrsig` where no RRSIG starts there, or it has no data.
+/// `NoRrsig` where no RRSIG starts there, or it has no data.
 #[tactic(auto, using(crate::proofs::InputSteps::walk_steps))]
-pub(crate) fn find_input(message: &[u8], start: usize) -> Result<SigInput, InputError>
+pub(crate) fn find_input(
+    message: &[u8],
+    mut walk: RecordWalk<'_>,
+    start: usize,
+) -> Result<SigInput, InputError>
+    requires message { walk.message ≡ message.now }
+    requires whole { places_at message.now ≡ Ok walk.left }
     ensures { Gives (λ input. input) result (input_found message.now start (places_at message.now)) }
 {
-    let Ok(mut walk) = RecordWalk::new(message) else {
-        return Err(InputError::NoMessage);
-    };
     let mut jumps = empty_table();
     'records: while let Some(place) = walk.next(&mut jumps) {
         if place.start == start {

@@ -76,27 +76,26 @@ fn put_place(
 }
 
 /// Where the records of a section stand that have this name, class and type, in the order of their data, and each of
-/// equal data once.
+/// equal data once, found by a walk over all records of the message.
 ///
-/// `NoMessage` where no message stands in the octets, and `DataTooLong` where the data of such a record don't fit a
-/// record in canonical form.
+/// `DataTooLong` where the data of such a record don't fit a record in canonical form.
 #[tactic(auto, using(crate::proofs::SetSteps::set_steps))]
 pub(crate) fn places_of_set(
     message: &[u8],
+    mut walk: RecordWalk<'_>,
     section: Section,
     name: &Name,
     dns_class: DNSClass,
     rtype: RecordType,
 ) -> Result<PlaceList, InputError>
+    requires message { walk.message ≡ message.now }
+    requires whole { places_at message.now ≡ Ok walk.left }
     ensures exact { Gives (map (data_from message.now)) result
         (data_found message.now section (record { name = name.now; dns_class = dns_class; rtype = rtype })
         (places_at message.now)) }
     ensures listed { IfOk result (All (λ place. IsOk (data_at message.now place))) }
     ensures few { IfOk result (λ places. length places ≤ 5957) }
 {
-    let Ok(mut walk) = RecordWalk::new(message) else {
-        return Err(InputError::NoMessage);
-    };
     let mut jumps = empty_table();
     let mut order = DataOrder::new(message);
     let mut places = PlaceList::new();

@@ -14,23 +14,23 @@ pub records-init : goal.records-init
 unfolding ascending
 records-init c =
     let m = c.args.message.now in
-    let left = c.in-Ok.walk.left in
+    let left = c.args.walk.left in
     let set : SetName = record { name = c.args.name.now; dns_class = c.args.dns_class; rtype = c.args.rtype } in
     let none : c.new-places.result ≡ [] = c.new-places.ensures in
     let Listed : List ℕ → Type 0 = λ places. All (λ place. IsOk (data_at m place)) places in
     let Ascends : List ℕ → Type 0 = λ places. Ascend (map (data_from m) places) in
     let no_length : length c.new-places.result ≡ 0 = ap length none in
-    let few = few_places m left c.in-Ok.ensures.exact in
+    let few = few_places m left c.requires.whole in
     record {
       read =
           ap (λ (places : List ℕ). put_each (map (data_from m) places) (data_of_each m c.args.section set left)) none
-          ∙ from_none m c.args.section set left c.in-Ok.ensures.exact;
-      same = c.in-Ok.ensures.message;
+          ∙ from_none m c.args.section set left c.requires.whole;
+      same = c.requires.message;
       order = c.new-order.ensures;
       jumps = c.empty_table-jumps.ensures m;
-      stand = each_stands m left c.in-Ok.ensures.exact;
+      stand = each_stands m left c.requires.whole;
       listed = subst Listed (sym none) (search rules);
       ascend = subst Ascends (sym none) (ascends []);
       room = omega arith;
-      short = short_message m left c.in-Ok.ensures.exact;
+      short = short_message m left c.requires.whole;
     }
