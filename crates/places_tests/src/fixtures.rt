@@ -26,6 +26,17 @@ pub(crate) const NS: &str = "0002050100000e10409e7a234076ed239677076578616d706c6
     076578616d706c65000002000100000e10000d036e7331076578616d706c6500\
     076578616d706c65000002000100000e10000d036e7332076578616d706c6500";
 
+/// An RRSIG of SIG records at place 12, and at place 44 a SIG of the same owner, the root, whose length and signature are
+/// left out. The signer of the SIG is a pointer to the start of the message, where the octets are a name of 59 octets: a
+/// label of 57, and an octet of zero in the SIG's own fields.
+pub(crate) const SIG_OF_ROOT: [&str; 5] = [
+    "390000000000000200000000",
+    "00002e000100000e100015",
+    "0018050000000e10409e7a234076ed23967700abcd",
+    "000018000100000e10",
+    "0001050000000e10409e7a234076ed239677c000",
+];
+
 /// The octets of hexadecimal digits.
 pub(crate) fn octets(alloc: Global, hex: &str) -> Result<Vec<u8>, Fail> {
     Ok(decode_hex(alloc, hex.as_bytes())?.ok_or("no hexadecimal")?)
@@ -38,6 +49,15 @@ pub(crate) fn joined(alloc: Global, pieces: &[&str]) -> Result<Vec<u8>, Fail> {
         all.extend_from_slice(&octets(alloc, piece)?)?;
     }
     Ok(all)
+}
+
+/// The message of a SIG of the root, where the SIG has this length and a signature of zeros.
+pub(crate) fn long_sig(alloc: Global, length: u16) -> Result<Vec<u8>, Fail> {
+    let mut message = joined(alloc, &SIG_OF_ROOT[..4])?;
+    message.extend_from_slice(&length.to_be_bytes())?;
+    message.extend_from_slice(&octets(alloc, SIG_OF_ROOT[4])?)?;
+    message.resize(55 + length as usize, 0)?;
+    Ok(message)
 }
 
 /// How many octets the RRSIG at a place covers of a set among the answers in class IN, or the cause why there are none.

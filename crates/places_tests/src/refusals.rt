@@ -1,5 +1,6 @@
 //! Why there is nothing that a signature covers, in the order of the causes.
-use crate::fixtures::{NAME_SERVERS, covered, joined};
+use crate::fixtures::{NAME_SERVERS, covered, joined, long_sig};
+use dns_places::{DataBuffer, DataError, canonical_data};
 use sec_places::InputError;
 use std::test::Fail;
 
@@ -30,5 +31,24 @@ fn cut_messages_are_refused_first(rt: HostRuntime) -> Result<(), Fail> {
         covered(&cut, ".", 25, &mut [])?,
         Err(InputError::NoMessage)
     );
+    Ok(())
+}
+
+/// Lengths of the SIG, and what its RRSIG covers: 19 octets of fields, 11 before the data, and the data, which are longer
+/// than those that stand by the 57 octets of a name in place of a pointer.
+const LONG_DATA: [(u16, Result<usize, InputError>); 2] = [
+    (65478, Ok(65565)),
+    (65479, Err(InputError::DataTooLong)),
+];
+
+#[test]
+fn data_that_no_record_holds_are_refused(rt: HostRuntime) -> Result<(), Fail> {
+    let mut held = DataBuffer::new();
+    for (length, wanted) in LONG_DATA {
+        let message = long_sig(rt.alloc(), length)?;
+        assert_eq!(rt; covered(&message, ".", 12, &mut [])?, wanted);
+        let made = canonical_data(&message, 44, &mut [], &mut held);
+        assert_eq!(rt; made.err(), wanted.err().map(|_| DataError::DataTooLong));
+    }
     Ok(())
 }
