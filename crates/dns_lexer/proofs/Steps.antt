@@ -1,9 +1,8 @@
 -- The items that a text begins with.
-use Rattle.std.proofs.Common.{◌≡◌, ℕ, zero, suc, ◌+◌, ◌-◌, ◌<◌, ◌≤◌, List, [], ◌∷◌, length, get_or, take, drop, refl}
+use Rattle.std.proofs.Common.{◌≡◌, ℕ, zero, suc, ◌-◌, ◌<◌, List, [], ◌∷◌, take, drop, refl}
 use Rattle.std.proofs.Common.{sym}
-use Rattle.std.proofs.Common.{ap, ◌∙◌, subst, arith, nat_eq, nat_lt, cond, Bool, true, false, inl, inr, not}
+use Rattle.std.proofs.Common.{ap, ◌∙◌, arith, nat_eq, nat_lt, cond, Bool, true, false}
 use Rattle.std.specs.Prelude.{◌&&◌, slice_index}
-use Rattle.std.proofs.lemmas.Bool.{cases_Bool}
 use Rattle.std.proofs.lemmas.Bool.Decides.{nat_tests}
 use Rattle.std.specs.Char.{is_ascii_graphic}
 use Rattle.std.specs.Str.{chars}
@@ -11,7 +10,7 @@ use Rattle.dns_text.specs.Words.{is_blank, is_line_feed, line_feed}
 use Rattle.dns_lexer.specs.declared.lex_token.LexToken.TheVariants as tokens
 use Rattle.dns_lexer.specs.Tokens.{gap_len, unit_len, word_len, is_plain, is_parenthesis, backslash, word_item}
 use Rattle.dns_lexer.specs.Tokens.{item_before}
-use Rattle.dns_lexer.specs.Tokens.{Item, mark, fault, begins, items, items_behind}
+use Rattle.dns_lexer.specs.Tokens.{mark, fault, begins, items, items_behind}
 use Rattle.dns_lexer.proofs.Units.{drop_none, word_none}
 
 -- skipped octets count for nothing

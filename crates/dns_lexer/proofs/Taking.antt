@@ -1,11 +1,11 @@
 -- What is left for a lexer, by the token that it takes.
-use Rattle.std.proofs.Common.{◌≡◌, ◌⊎◌, ℕ, ◌+◌, ◌<◌, ◌≤◌, List, [], ◌∷◌, length, take, drop, refl, sym, ap, ◌∙◌, subst}
-use Rattle.std.proofs.Common.{arith, inl, inr, nat_eq, cond, Bool, true, false, get_or, Result, Ok, Err}
-use Rattle.std.specs.Prelude.{◌&&◌, slice_index}
+use Rattle.std.proofs.Common.{◌≡◌, ◌⊎◌, ℕ, ◌<◌, List, [], ◌∷◌, length, take, drop, refl, sym, ap, ◌∙◌, subst}
+use Rattle.std.proofs.Common.{arith, inl, inr, true, false, get_or, Err}
+use Rattle.std.specs.Prelude.{slice_index}
 use Rattle.std.proofs.lemmas.Bool.Decides.{nat_tests}
 use Rattle.std.proofs.lemmas.Str.{IsCharBoundary-after_ascii}
 use Rattle.std.specs.Str.{chars, IsUtf8, IsCharBoundary}
-use Rattle.dns_text.specs.Words.{is_line_feed, line_feed}
+use Rattle.dns_text.specs.Words.{is_line_feed}
 use Rattle.dns_lexer.specs.declared.lexer.Lexer.{Lexer}
 use Rattle.dns_lexer.specs.declared.lex_error.LexError.{LexError}
 use Rattle.dns_lexer.specs.declared.lex_error.LexError.TheVariants as errors
@@ -13,7 +13,7 @@ use Rattle.dns_lexer.specs.declared.lex_token.LexToken.{LexToken}
 use Rattle.dns_lexer.specs.declared.lex_token.LexToken.TheVariants as tokens
 use Rattle.dns_lexer.specs.Tokens.{gap_len, word_len, is_parenthesis, word_item, item_before, item_of, dollar}
 use Rattle.dns_lexer.specs.Tokens.{Item, mark, fault, items, items_left, items_behind, Takes}
-use Rattle.dns_lexer.proofs.Steps.{at_word, at_end, at_line_feed, at_parenthesis, at_fault}
+use Rattle.dns_lexer.proofs.Steps.{at_word, at_line_feed, at_parenthesis, at_fault}
 
 -- a token is no fault
 before_token : (token : LexToken) (behind : List Item) → item_before (item_of token) behind ≡ item_of token ∷ behind

@@ -1,14 +1,12 @@
 -- The units that a word is made of.
-use Rattle.std.proofs.Common.{◌≡◌, ℕ, zero, suc, ◌+◌, ◌-◌, ◌<◌, ◌≤◌, List, [], ◌∷◌, length, get_or, drop, refl, sym, ap}
-use Rattle.std.proofs.Common.{◌∙◌, subst, length-drop, arith, nat_eq, nat_lt, cond, Bool, true, false, inl, inr, not}
-use Rattle.std.proofs.lemmas.Bool.{cases_Bool}
+use Rattle.std.proofs.Common.{◌≡◌, ℕ, zero, suc, ◌+◌, ◌-◌, ◌<◌, ◌≤◌, List, [], ◌∷◌, length, get_or, drop, refl, ap}
+use Rattle.std.proofs.Common.{◌∙◌, subst, length-drop, arith, true}
 use Rattle.std.proofs.lemmas.Bool.Decides.{nat_tests}
 use Rattle.std.proofs.lemmas.List.{get_or-drop, drop-drop}
-use Rattle.std.proofs.lemmas.Grind.{common_steps}
 use Rattle.std.proofs.lemmas.Str.{IsCharBoundary-start, IsCharBoundary-after_ascii}
 use Rattle.std.specs.Char.{is_ascii_graphic}
 use Rattle.std.specs.Str.{IsUtf8, IsCharBoundary}
-use Rattle.dns_lexer.specs.Tokens.{unit_len, word_len, word_len_behind, is_plain, backslash}
+use Rattle.dns_lexer.specs.Tokens.{unit_len, word_len, word_len_behind, is_plain}
 
 graphic_small : (c : ℕ) → is_ascii_graphic c ≡ true → c < 128
 graphic_small c e = grind (arith, nat_tests)

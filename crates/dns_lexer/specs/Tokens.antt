@@ -1,12 +1,12 @@
 -- The tokens of anchor text, whose words, comments and lines are those of zone files (RFC 1035 5.1).
-use Rattle.std.specs.Prelude.{◌≡◌, ℕ, zero, suc, ◌+◌, ◌-◌, List, [], ◌∷◌, length, take, Bool, false, ◌&&◌, not}
+use Rattle.std.specs.Prelude.{◌≡◌, ℕ, zero, suc, ◌+◌, ◌-◌, List, [], ◌∷◌, take, Bool, false, ◌&&◌, not}
 use Rattle.std.specs.Prelude.{nat_eq, nat_lt}
 use Rattle.std.specs.Prelude.{if◌then◌else◌, codes, slice_index, Option, Some, None, Result, Ok, Err}
 use Rattle.std.specs.Char.{is_ascii_graphic}
 use Rattle.std.specs.List.{list_any, position_or_len}
 use Rattle.std.specs.Str.{chars, bytes_eq}
 use Rattle.std.specs.String.{string_bytes}
-use Rattle.dns_text.specs.Words.{is_blank, is_line_feed, line_feed, carriage_return}
+use Rattle.dns_text.specs.Words.{is_blank, is_line_feed, carriage_return}
 use Rattle.dns_lexer.specs.declared.lexer.Lexer.{Lexer}
 use Rattle.dns_lexer.specs.declared.lex_error.LexError.{LexError}
 use Rattle.dns_lexer.specs.declared.lex_error.LexError.TheVariants as errors

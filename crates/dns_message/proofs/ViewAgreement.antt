@@ -9,7 +9,7 @@ use Rattle.dns_grammar.specs.RecordData.{tsig_type}
 use Rattle.dns_grammar.specs.Laws.{unplaced_record}
 use Rattle.dns_grammar.specs.Messages as grammar
 use Rattle.dns_grammar.specs.Messages.{ResourceRecord, Signature, Outline, last_of, signature_with, signature_from}
-use Rattle.dns_grammar.specs.Messages.{tsig_from_values, signature_of, outline_of, message_at}
+use Rattle.dns_grammar.specs.Messages.{tsig_from_values, outline_of, message_at}
 use Rattle.dns_grammar.proofs.MessageLaws.{message_stands}
 use Rattle.dns_rdata.specs.RDataTable.{rdata_table}
 use Rattle.sec_sigdata.specs.declared.tsig.TSIG.{TSIG}

@@ -1,5 +1,5 @@
 -- How a message is read into memory, from left to right.
-use Rattle.std.specs.Prelude.{false, ℕ, ◌-◌, List, Option, None, Result, Ok}
+use Rattle.std.specs.Prelude.{false, ℕ, ◌-◌, List, None, Result, Ok}
 use Rattle.dns_wire.specs.declared.error.DecodeError.{DecodeError}
 use Rattle.dns_wire.specs.Reading.{◌>>=◌, each_at}
 use Rattle.dns_grammar.specs.Laws.{unplaced_record}

@@ -1,5 +1,5 @@
 -- What is true of the table of record data.
-use Rattle.std.proofs.Common.{◌≡◌, ℕ, ◌+◌, ◌<◌, List, true, false, Option, Some, None, IsTrue, refl, sym, ap, arith}
+use Rattle.std.proofs.Common.{◌≡◌, ℕ, ◌+◌, ◌<◌, List, true, false, Option, IsTrue, refl, sym, ap, arith}
 use Rattle.std.specs.Prelude.{map, nat_lt, slice_index, unwrap_or}
 use Rattle.std.proofs.lemmas.Bool.{ltb-true, agree_below_at}
 use Rattle.std.specs.List.Sorted.{IsStrictlyIncreasing}

@@ -9,7 +9,7 @@ use Rattle.dns_wire.specs.Lookup.{lookup}
 use Rattle.dns_wire.specs.Reading.{◌>>=◌}
 use Rattle.dns_names.specs.NameText.{name_text}
 use Rattle.dns_types.specs.TypeNumbers as types
-use Rattle.dns_grammar.specs.Fields.{Value, Str, Field, Table, unknown_row, row_of}
+use Rattle.dns_grammar.specs.Fields.{Value, Str, Field, unknown_row, row_of}
 use Rattle.dns_grammar.specs.Messages.{tsig_values}
 use Rattle.dns_grammar.specs.RecordData.{tsig_type, one_type_data_at}
 use Rattle.sec_keydata.specs.DnsKeys.{dnskey_data, dnskey_values, dnskey_text, DnsKeyIsByNumber}

@@ -1,5 +1,5 @@
 -- The entries of an anchor text: DNSKEY records by lines, as in zone files (RFC 1035 5.1, RFC 4034 2.2).
-use Rattle.std.specs.Prelude.{ℕ, List, [], ◌∷◌, ◌++◌, length, Bool, true, false, nat_eq, if◌then◌else◌}
+use Rattle.std.specs.Prelude.{ℕ, List, [], ◌∷◌, ◌++◌, Bool, true, false, nat_eq, if◌then◌else◌}
 use Rattle.std.specs.Prelude.{Option, Some, None, Result, Ok, Err}
 use Rattle.std.specs.List.{onto_first, flat_map}
 use Rattle.dns_text.specs.Words.{space}

@@ -5,12 +5,12 @@ use Rattle.std.proofs.Common.{Result, Ok, Err, arith, append_assoc, length-appen
 use Rattle.std.proofs.lemmas.List.{drop_more}
 use Rattle.std.proofs.lemmas.Option.{slice_get-map}
 use Rattle.std.proofs.Math.Bool.{and-false}
-use Rattle.std.specs.Ordering.{is_eq, ordering_then}
+use Rattle.std.specs.Ordering.{is_eq}
 use Rattle.std.specs.Cmp.{unsigned_ties}
 use Rattle.std.proofs.lemmas.Cmp.{nat_eq_equiv}
 use Rattle.std.specs.BTreeMap.{BTreeMap}
 use Rattle.std.specs.Global.{Vec}
-use Rattle.dns_names.specs.Names.{low, same}
+use Rattle.dns_names.specs.Names.{same}
 use Rattle.dns_names.specs.NameLaws.{same_ties}
 use Rattle.sec_codes.specs.Algorithms.{number}
 use Rattle.sec_keydata.specs.declared.key_data_error.KeyDataError.{KeyDataError}

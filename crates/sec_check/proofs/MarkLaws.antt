@@ -1,13 +1,12 @@
 -- The mark of a set, by the records and the signatures that are held for it.
 use Rattle.std.proofs.Common.{◌≡◌, ℕ, Bool, true, false, eqb, ◌&&◌, ◌||◌, if◌then◌else◌, List, [], ◌∷◌, map, Option}
-use Rattle.std.proofs.Common.{Some, None, Result, refl, sym, ap, ◌∙◌}
+use Rattle.std.proofs.Common.{Some, None, Result, refl, ap, ◌∙◌}
 use Rattle.std.specs.List.{AllByRecursion, filter, list_any}
 use Rattle.dns_wire.specs.declared.error.EmitError.{EmitError}
 use Rattle.dns_names.specs.Names.{count, same}
 use Rattle.sec_anchor.specs.Entries.{EntryData}
 use Rattle.sec_codes.specs.declared.proof.Proof.{Proof}
 use Rattle.sec_codes.specs.declared.proof.Proof.TheVariants.{Indeterminate, Bogus, Secure}
-use Rattle.sec_sigdata.specs.declared.sig_input.SigInput.{SigInput}
 use Rattle.sec_sigdata.specs.Signatures.{SigData}
 use Rattle.dns_rdata.specs.declared.rdata.RData.{RData}
 use Rattle.dns_message.specs.declared.record.Record.{Record}
@@ -15,12 +14,12 @@ use Rattle.dns_message.specs.OwnedMessages.{IsReadRecord}
 use Rattle.dns_message.specs.Parts.{record_view}
 use Rattle.sec_sign.specs.declared.pair.PairVerdict.{PairVerdict}
 use Rattle.sec_sign.specs.declared.pair.PairVerdict.TheVariants.{NotMet, NotAccepted, Authentic}
-use Rattle.sec_sign.specs.MessageSets.{same_set, set_octets}
+use Rattle.sec_sign.specs.MessageSets.{set_octets}
 use Rattle.sec_sign.specs.Pairs.{SetName, SignatureRecord, ZoneKey, covers_set, record_verdict, rrsig_verdict}
 use Rattle.sec_sign.specs.Pairs.{signature_record}
 use Rattle.sec_sign.specs.Signed.{set_data}
 use Rattle.sec_sign.specs.Verifying.{Relation}
-use Rattle.sec_check.specs.Marks.{Trust, has_met, is_authentic, mark, mark_by, pair_verdict}
+use Rattle.sec_check.specs.Marks.{Trust, has_met, is_authentic, mark, mark_by}
 use Rattle.sec_check.specs.Marks.{signature_of_record, some_pair, stronger, strongest, strongest_on, strongest_pair}
 use Rattle.sec_check.specs.Marks.{zone_key}
 use Rattle.sec_check.specs.Reports.{set_proof}

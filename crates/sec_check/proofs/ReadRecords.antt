@@ -18,7 +18,7 @@ use Rattle.dns_rdata.proofs.TableLaws.{canon_of_type}
 use Rattle.dns_message.specs.declared.record.Record.{Record}
 use Rattle.dns_message.specs.Parts.{record_view}
 use Rattle.sec_sign.specs.MessageSets.{rrsig_from_values}
-use Rattle.sec_sign.specs.Pairs.{SignatureRecord, rrsig_of, signature_record}
+use Rattle.sec_sign.specs.Pairs.{rrsig_of, signature_record}
 use Rattle.sec_sign.specs.Signed.{canonical}
 use Rattle.sec_check.specs.Marks.{signature_of_record}
 

@@ -1,7 +1,7 @@
 -- One more record of a section, sorted by its set.
 use Rattle.std.proofs.Common.{◌≡◌, refl, sym, ap, ◌∙◌, Bool, true, false, cond, ◌&&◌, List, [], ◌∷◌, ◌++◌, map, Option, if◌then◌else◌}
-use Rattle.std.proofs.Common.{Some, None, is_some, append-nil, option_map}
-use Rattle.std.specs.List.{filter, list_any}
+use Rattle.std.proofs.Common.{Some, None, is_some, append-nil}
+use Rattle.std.specs.List.{filter}
 use Rattle.std.specs.Ordering.{is_eq}
 use Rattle.std.proofs.lemmas.List.{map-append}
 use Rattle.std.proofs.lemmas.List.Elements.{filter-append}

@@ -1,5 +1,5 @@
 -- The data of a set, by the records that are held for it.
-use Rattle.std.proofs.Common.{◌≡◌, ℕ, Bool, true, false, eqb, ◌&&◌, List, [], ◌∷◌, map, Result, Ok, Err, refl, sym, ap}
+use Rattle.std.proofs.Common.{◌≡◌, ℕ, Bool, true, false, eqb, ◌&&◌, List, [], ◌∷◌, map, Result, Ok, refl, ap}
 use Rattle.std.proofs.Common.{◌∙◌}
 use Rattle.std.specs.List.{AllByRecursion, filter}
 use Rattle.std.proofs.lemmas.Bool.{eqb-true}
@@ -17,7 +17,7 @@ use Rattle.dns_message.specs.Parts.{record_view}
 use Rattle.sec_sign.specs.Ascending.{ascending}
 use Rattle.sec_sign.specs.MessageSets.{same_set, set_octets, set_of}
 use Rattle.sec_sign.specs.Pairs.{SetName}
-use Rattle.sec_sign.specs.Signed.{canonical, canonical_each, chosen, for_each, is_of, set_data}
+use Rattle.sec_sign.specs.Signed.{canonical_each, for_each, is_of, set_data}
 use Rattle.sec_check.specs.RecordSets.{forms_rrset}
 use Rattle.sec_check.specs.SectionRecords.{is_record_of}
 use Rattle.sec_check.proofs.ReadRecords.{canonical_by_fields}

@@ -1,6 +1,6 @@
 -- How far a record set of an answer is proved authentic, by the signatures in its section and by trusted keys
 -- (RFC 4035 5.3).
-use Rattle.std.specs.Prelude.{Bool, true, false, ℕ, nat_eq, if◌then◌else◌, List, [], ◌∷◌, map, Option, Some, None}
+use Rattle.std.specs.Prelude.{Bool, true, false, ℕ, nat_eq, if◌then◌else◌, List, [], ◌∷◌, map, None}
 use Rattle.std.specs.Prelude.{Result}
 use Rattle.std.specs.List.{list_any}
 use Rattle.dns_wire.specs.declared.error.EmitError.{EmitError}

@@ -1,10 +1,9 @@
 -- What is written of data is read back.
 use Rattle.std.proofs.Common.{◌≡◌, ℕ, ◌^◌, ◌<◌, ltb, Bool, true, false, None, List, [], ◌∷◌, ◌++◌, length}
-use Rattle.std.proofs.Common.{append-nil, length-append, Result, Ok, Err, refl, ap, sym, ◌∙◌, arith}
+use Rattle.std.proofs.Common.{append-nil, length-append, Ok, refl, ap, sym, ◌∙◌, arith}
 use Rattle.std.proofs.lemmas.Bool.{lt-ltb}
 use Rattle.std.specs.Int.{w8, w16, to_be_bytes}
 use Rattle.std.specs.Prelude.{IsTrue}
-use Rattle.dns_wire.specs.declared.error.EmitError.{EmitError}
 use Rattle.dns_names.specs.Names.{wire, IsName}
 use Rattle.dns_names.specs.NameLaws.{length_lt-wire}
 use Rattle.dns_types.specs.TypeSets.{is_bitmap}

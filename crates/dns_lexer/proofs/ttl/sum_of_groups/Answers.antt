@@ -1,4 +1,4 @@
-use Rattle.std.proofs.Common.{◌≡◌, ◌∙◌, ◌^◌, ◌<◌, ◌≤◌, length, arith, sym}
+use Rattle.std.proofs.Common.{◌≡◌, ◌∙◌, ◌^◌, ◌<◌, length, arith}
 use Rattle.std.proofs.lemmas.Bool.Decides.{nat_tests}
 use Rattle.dns_lexer.proofs.Groups.{groups_fail, groups_large, groups_more, groups_end}
 use Rattle.dns_lexer.proofs.ttl.sum_of_groups.Goals as goal

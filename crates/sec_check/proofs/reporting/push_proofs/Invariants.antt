@@ -5,7 +5,6 @@ use Rattle.dns_message.specs.declared.record.Record.{Record}
 use Rattle.dns_message.specs.OwnedMessages.{IsReadRecord}
 use Rattle.dns_message.specs.Parts.{record_view}
 use Rattle.sec_check.specs.Marks.{Trust}
-use Rattle.sec_check.specs.RecordSets.{record_sets}
 use Rattle.sec_check.specs.Reports.{section_proofs, set_proof}
 use Rattle.sec_check.specs.SectionRecords.{name_of}
 use Rattle.sec_check.specs.Sections.{Holds}

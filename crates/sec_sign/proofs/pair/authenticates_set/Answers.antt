@@ -1,5 +1,4 @@
-use Rattle.std.proofs.Common.{rules, ◌≡◌, ◌∙◌, ap, subst, IfOk, ℕ, List, Result, Some}
-use Rattle.dns_wire.specs.declared.error.EmitError.{EmitError}
+use Rattle.std.proofs.Common.{rules, ◌≡◌, ◌∙◌, subst, IfOk, Some}
 use Rattle.sec_codes.specs.KeptKeys.{kept_key}
 use Rattle.sec_keydata.specs.DnsKeys.{dnskey_data}
 use Rattle.sec_sign.specs.declared.pair.PairVerdict.{PairVerdict}

@@ -1,7 +1,6 @@
-use Rattle.std.proofs.Common.{◌≡◌, ◌∙◌, ap, sym, subst, refl, arith, inl, inr, drop, take, ◌∷◌, [], Ok, Err, ℕ, List}
-use Rattle.std.specs.Str.{IsCharBoundary}
+use Rattle.std.proofs.Common.{◌≡◌, ◌∙◌, ap, sym, subst, refl, arith, inl, inr, ◌∷◌}
 use Rattle.dns_lexer.specs.declared.lex_token.LexToken.TheVariants as tokens
-use Rattle.dns_lexer.specs.Tokens.{items, items_behind, items_left, word_item, item_of, mark, fault, dollar, Takes}
+use Rattle.dns_lexer.specs.Tokens.{items, items_behind, items_left, word_item, item_of, mark, Takes}
 use Rattle.dns_lexer.proofs.Steps.{left_behind, at_end}
 use Rattle.dns_lexer.proofs.Taking.{takes_word, refuses_word, takes_line_feed, takes_parenthesis, refuses_other}
 use Rattle.dns_lexer.proofs.Taking.{behind_first, parenthesis_small, takes_err}

@@ -1,7 +1,7 @@
 use Rattle.std.proofs.Common.{rules, ◌≡◌, refl, true, false, Some, None}
 use Rattle.dns_rdata.specs.RData.{rdata_type}
-use Rattle.sec_sign.specs.MessageSets.{same_set, set_of}
-use Rattle.sec_sign.specs.Pairs.{SetName, signature_record}
+use Rattle.sec_sign.specs.MessageSets.{same_set}
+use Rattle.sec_sign.specs.Pairs.{signature_record}
 use Rattle.sec_check.specs.Indexes.{values_at}
 use Rattle.sec_check.specs.RecordSets.{forms_rrset, with_new}
 use Rattle.sec_check.specs.SectionRecords.{covered_set, key_cmp, name_of}
