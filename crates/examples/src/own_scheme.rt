@@ -5,7 +5,7 @@ use sec_codes::{Algorithm, SignatureScheme};
 use sec_sign::KeyedHash;
 
 /// Signatures by keys of Ed25519 alone, whose number is 15. Where `KeyedHash` stands, a resolver has the arithmetic.
-pub struct OwnScheme;
+pub(crate) struct OwnScheme;
 
 impl SignatureScheme for OwnScheme {
     ghost use Rattle.std.specs.Prelude.{nat_eq, ◌&&◌};

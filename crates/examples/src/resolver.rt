@@ -48,7 +48,7 @@ fn canonical_mx(alloc: Global) -> Result<Vec<u8>> {
     Ok(data.canonical_octets(alloc)?)
 }
 
-pub fn run(rt: &impl Print, alloc: Global, signer: &TSigner) -> Result<()> {
+pub(crate) fn run(rt: &impl Print, alloc: Global, signer: &TSigner) -> Result<()> {
     let (sent, mut checker) = ask(alloc, signer, octets(alloc, REQUEST)?, 1000, ANCHOR)?;
     let sent = LowerHex(&sent);
     println!(rt; "resolver: sends {sent}")?;

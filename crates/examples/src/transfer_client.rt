@@ -36,7 +36,7 @@ fn corrupted(alloc: Global, message: &[u8]) -> Result<Vec<u8>> {
     Ok(octets)
 }
 
-pub fn run(rt: &impl Print, alloc: Global, signer: &TSigner) -> Result<()> {
+pub(crate) fn run(rt: &impl Print, alloc: Global, signer: &TSigner) -> Result<()> {
     let mut verifier = begin(alloc, signer, 1000)?;
     for text in MESSAGES {
         let message = octets(alloc, text)?;

@@ -99,7 +99,7 @@ const REQUESTS: [(&str, u64, &str); 4] = [
     (STRANGE_UPDATE, 1010, "bad key"),
 ];
 
-pub fn run(rt: &impl Print, alloc: Global, signer: &TSigner) -> Result<()> {
+pub(crate) fn run(rt: &impl Print, alloc: Global, signer: &TSigner) -> Result<()> {
     for (text, now, word) in REQUESTS {
         let request = octets(alloc, text)?;
         let sent = answer(alloc, signer, &request, now)?;

@@ -32,7 +32,7 @@ fn is_right(alloc: Global, key: &DNSKEY, set: &RecordSet, rrsig: &RRSIG) -> bool
         .is_ok()
 }
 
-pub fn run(rt: &impl Print, alloc: Global) -> Result<()> {
+pub(crate) fn run(rt: &impl Print, alloc: Global) -> Result<()> {
     // a key of one's own implements `SigningKey`; this one is for trials
     let key = KeyedHashKey::new(alloc, Algorithm::ED25519, &[1; 32])?;
     let key: Box<dyn SigningKey> = Box::new(alloc, key)?;

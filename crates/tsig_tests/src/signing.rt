@@ -25,7 +25,7 @@ const REQUEST_TBS: &str =
     "123401000001000000000000076578616d706c650000010001016b0000ff000000000b686d61632d736861323536000000000003e8012c00000000";
 
 /// The octets of a message with a record behind it, where there is room for it.
-pub fn joined(alloc: Global, message: &str, rr: &Record<TSIG>) -> Result<Vec<u8>, Fail> {
+pub(crate) fn joined(alloc: Global, message: &str, rr: &Record<TSIG>) -> Result<Vec<u8>, Fail> {
     let mut octets = octets_of(alloc, message)?;
     if octets.len() < 12 {
         return Err(Fail::from("no header"));

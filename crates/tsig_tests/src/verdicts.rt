@@ -262,7 +262,7 @@ const CHAINS: &[(u32, Answers)] = &[
 ];
 
 /// What checks the answers to the request at this time.
-pub fn verifier(alloc: Global, time: u32) -> Result<TSigVerifier, Fail> {
+pub(crate) fn verifier(alloc: Global, time: u32) -> Result<TSigVerifier, Fail> {
     let request = octets_of(alloc, crate::strings::REQUEST)?;
     if request.len() < 12 {
         return Err(Fail::from("no request"));
