@@ -3,3 +3,4 @@ pub mod Memory
 pub mod Standard
 pub mod Status
 pub mod Transfer
+pub mod ErrorTexts

@@ -6,12 +6,25 @@ ghost use Rattle.std.specs.Io.{ReadsAtMost, WritesAtMost};
 ghost use Rattle.std.specs.Io.KnownBytes.{ReadConsumes, WriteAppends};
 ghost use Rattle.dns_io.specs.Counts.{CountsTaken, CountsFaults};
 
-use thiserror::Error;
+use std::error::Error;
+use std::fmt;
 
 /// A read or a write failed.
-#[derive(Clone, Copy, Debug, PartialEq, Eq, Hash, Error)]
-#[error("a read or a write failed")]
+#[derive(Clone, Copy, Debug, PartialEq, Eq, Hash)]
 pub struct Failed;
+
+/// Its name.
+impl fmt::Display for Failed {
+    ghost use Rattle.std.specs.Prelude.{Some, codes};
+
+    ghost output = { λ _. Some (codes "Failed") };
+
+    fn fmt<W: fmt::Write>(&self, f: &mut fmt::Formatter<W>) -> fmt::Result {
+        f.write_str("Failed")
+    }
+}
+
+impl Error for Failed {}
 
 /// A source of octets.
 pub trait Source {

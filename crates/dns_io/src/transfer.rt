@@ -9,7 +9,8 @@ ghost use Rattle.dns_io.specs.declared.transfer.ReadError.TheVariants.{OutOfMemo
 
 use crate::{Failed, Sink, Source};
 use std::alloc::{AllocError, Global};
-use thiserror::Error;
+use std::error::Error;
+use std::fmt;
 
 /// The most octets that are read.
 pub const INPUT_LIMIT: usize = 16_777_216;
@@ -18,18 +19,33 @@ pub const INPUT_LIMIT: usize = 16_777_216;
 const PIECE: usize = 65_536;
 
 /// Why there is no content.
-#[derive(Clone, Copy, Debug, PartialEq, Eq, Hash, Error)]
+#[derive(Clone, Copy, Debug, PartialEq, Eq, Hash)]
 pub enum ReadError {
     /// A read failed.
-    #[error("a read failed")]
     Fault,
     /// More than [`INPUT_LIMIT`] octets come before the end.
-    #[error("the input is too long")]
     TooLong,
     /// There was no memory.
-    #[error("out of memory")]
     OutOfMemory,
 }
+
+/// The name of the variant.
+impl fmt::Display for ReadError {
+    ghost use Rattle.std.specs.Prelude.{Some};
+    ghost use Rattle.dns_io.specs.ErrorTexts.{read_error_text};
+
+    ghost output = { λ error. Some (read_error_text error) };
+
+    fn fmt<W: fmt::Write>(&self, f: &mut fmt::Formatter<W>) -> fmt::Result {
+        f.write_str(match self {
+            ReadError::Fault => "Fault",
+            ReadError::TooLong => "TooLong",
+            ReadError::OutOfMemory => "OutOfMemory",
+        })
+    }
+}
+
+impl Error for ReadError {}
 
 impl From<AllocError> for ReadError {
     ghost from_gives = { λ _ e. e ≡ OutOfMemory };

@@ -1,4 +1,5 @@
 //! The tokens of anchor text.
+use std::fmt;
 
 /// A token. A contract sees it by `item_of`.
 #[derive(Debug, PartialEq, Eq, Drop)]
@@ -19,4 +20,25 @@ pub enum LexToken {
     Ttl,
     /// A parenthesis.
     List,
+}
+
+/// The name of the variant, and its word.
+impl fmt::Display for LexToken {
+    ghost use Rattle.std.specs.Prelude.{Some};
+    ghost use Rattle.dns_lexer.specs.ErrorTexts.{lex_token_text};
+
+    ghost output = { λ token. Some (lex_token_text token) };
+
+    fn fmt<W: fmt::Write>(&self, f: &mut fmt::Formatter<W>) -> fmt::Result {
+        match self {
+            LexToken::Blank => f.write_str("Blank"),
+            LexToken::CharData(word) => write!(f, "CharData {word}"),
+            LexToken::EOL => f.write_str("EOL"),
+            LexToken::At => f.write_str("At"),
+            LexToken::Include => f.write_str("Include"),
+            LexToken::Origin => f.write_str("Origin"),
+            LexToken::Ttl => f.write_str("Ttl"),
+            LexToken::List => f.write_str("List"),
+        }
+    }
 }

@@ -7,3 +7,4 @@ pub mod RecordSets
 pub mod Responses
 pub mod Summary
 pub mod Laws
+pub mod ErrorTexts

@@ -4,21 +4,37 @@ ghost use Rattle.dns_message.specs.Responses.{response_message, response_octets,
 
 use crate::message::Message;
 use dns_wire::DecodeError;
-use thiserror::Error;
+use std::error::Error;
+use std::fmt;
 
 /// Why octets are no response.
-#[derive(Clone, Copy, Debug, PartialEq, Eq, Error)]
+#[derive(Clone, Copy, Debug, PartialEq, Eq)]
 pub enum ResponseError {
     /// The octets are no message.
-    #[error("{0}")]
     Decode(DecodeError),
     /// The bit QR is clear.
-    #[error("not a response")]
     NotAResponse,
     /// There was no memory.
-    #[error("out of memory")]
     OutOfMemory,
 }
+
+/// The name of the variant, and what it holds.
+impl fmt::Display for ResponseError {
+    ghost use Rattle.std.specs.Prelude.{Some};
+    ghost use Rattle.dns_message.specs.ErrorTexts.{response_error_text};
+
+    ghost output = { λ error. Some (response_error_text error) };
+
+    fn fmt<W: fmt::Write>(&self, f: &mut fmt::Formatter<W>) -> fmt::Result {
+        match self {
+            ResponseError::Decode(fault) => write!(f, "Decode {fault}"),
+            ResponseError::NotAResponse => f.write_str("NotAResponse"),
+            ResponseError::OutOfMemory => f.write_str("OutOfMemory"),
+        }
+    }
+}
+
+impl Error for ResponseError {}
 
 /// A response, and the octets that it was read from. A contract sees them, by `response_message` and
 /// `response_octets`.

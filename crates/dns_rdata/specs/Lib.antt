@@ -4,3 +4,4 @@ pub mod PlainData
 pub mod RData
 pub mod Texts
 pub mod OneReading
+pub mod DataText

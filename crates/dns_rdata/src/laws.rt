@@ -6,8 +6,9 @@ ghost use Rattle.dns_grammar.specs.Laws.{rest_is_last};
 ghost use Rattle.dns_grammar.specs.RecordData.{rdata_octets, plain, fitting, canon};
 ghost use Rattle.dns_grammar.specs.Tables.{IsTable};
 ghost use Rattle.dns_rdata.specs.declared.rdata.RData.{RData};
+ghost use Rattle.dns_rdata.specs.DataText.{data_text};
 ghost use Rattle.dns_rdata.specs.OneReading.{rests_are_last, OneReading, IsReadAgain};
-ghost use Rattle.dns_rdata.specs.RData.{rdata_row, rdata_type, rdata_values, RDataIsByNumber};
+ghost use Rattle.dns_rdata.specs.RData.{rdata_row, rdata_type, rdata_values, rdata_text, RDataIsByNumber};
 ghost use Rattle.dns_rdata.specs.RDataTable.{rdata_table};
 
 /// Data of one type have equal canonical octets exactly where they agree.
@@ -39,4 +40,10 @@ pub fn rows_are_of_types()
     ensures canon { (rdata : RData) → RDataIsByNumber rdata
         → fitting (rdata_octets true (rdata_row rdata) (rdata_values rdata))
         ≡ canon rdata_table (rdata_type rdata) (rdata_values rdata) }
+{}
+
+/// The text of data is that of their type and the values of their fields, as in all data that were read.
+pub fn text_is_of_values()
+    ensures { (rdata : RData) → RDataIsByNumber rdata
+        → rdata_text rdata ≡ data_text (rdata_type rdata) (rdata_values rdata) }
 {}

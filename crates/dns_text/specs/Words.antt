@@ -60,9 +60,17 @@ from_word line = drop (position_or_len (λ octet. not (is_blank octet)) line) li
 abbrev pub behind_word : List ℕ → List ℕ
 behind_word line = after_first is_blank (from_word line)
 
+abbrev pub one_word : List (List ℕ) → Option (List ℕ)
+one_word (a ∷ []) = Some a
+one_word _ = None
+
 abbrev pub two_words : List (List ℕ) → Option (List ℕ × List ℕ)
 two_words (a ∷ b ∷ []) = Some (a, b)
 two_words _ = None
+
+abbrev pub three_words : List (List ℕ) → Option (List ℕ × List ℕ × List ℕ)
+three_words (a ∷ b ∷ c ∷ []) = Some (a, b, c)
+three_words _ = None
 
 abbrev pub four_words : List (List ℕ) → Option (List ℕ × List ℕ × List ℕ × List ℕ)
 four_words (a ∷ b ∷ c ∷ d ∷ []) = Some (a, b, c, d)

@@ -9,6 +9,6 @@ mod words;
 pub use base64_text::Base64Text;
 pub use hex_text::{LowerHex, UpperHex};
 pub use words::{
-    decode_hex, four_words, is_skipped, is_text, number_below, split_line, split_word, two_words,
-    without_return,
+    decode_hex, four_words, is_skipped, is_text, number_below, one_word, split_line, split_word,
+    three_words, two_words, without_return,
 };

@@ -7,7 +7,7 @@ ghost use Rattle.std.specs.List.{after_first, before_first, list_all};
 ghost use Rattle.std.specs.Option.{option_map};
 ghost use Rattle.dns_text.specs.Words.{is_line_feed, is_blank, is_text, is_skipped, lines, words, from_word};
 ghost use Rattle.dns_text.specs.Words.{behind_word};
-ghost use Rattle.dns_text.specs.Words.{without_return, number_below, decode_hex, two_words, four_words};
+ghost use Rattle.dns_text.specs.Words.{without_return, number_below, decode_hex, one_word, two_words, three_words, four_words};
 
 use hex::FromHexError;
 use std::alloc::{AllocError, Global};
@@ -117,6 +117,17 @@ pub fn split_word(line: &[u8]) -> Option<(&[u8], &[u8])>
     Some(split_blank(rest))
 }
 
+/// The word of a line that has one.
+pub fn one_word(line: &[u8]) -> Option<&[u8]>
+    ensures { option_map (λ word. word.now) result ≡ one_word (words line.now) }
+{
+    let (word, rest) = split_word(line)?;
+    match split_word(rest) {
+        Some(_) => None,
+        None => Some(word),
+    }
+}
+
 /// The two words of a line that has two.
 pub fn two_words(line: &[u8]) -> Option<(&[u8], &[u8])>
     ensures { option_map (λ found. (found.0.now, found.1.now)) result ≡ two_words (words line.now) }
@@ -126,6 +137,19 @@ pub fn two_words(line: &[u8]) -> Option<(&[u8], &[u8])>
     match split_word(rest) {
         Some(_) => None,
         None => Some((first, second)),
+    }
+}
+
+/// The three words of a line that has three.
+pub fn three_words(line: &[u8]) -> Option<(&[u8], &[u8], &[u8])>
+    ensures { option_map (λ found. (found.0.now, found.1.now, found.2.now)) result ≡ three_words (words line.now) }
+{
+    let (first, rest) = split_word(line)?;
+    let (second, rest) = split_word(rest)?;
+    let (third, rest) = split_word(rest)?;
+    match split_word(rest) {
+        Some(_) => None,
+        None => Some((first, second, third)),
     }
 }
 

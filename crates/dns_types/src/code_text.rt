@@ -11,6 +11,13 @@ impl RecordType {
     pub fn parse(text: &str) -> Option<RecordType>
         ensures { result ≡ type_of text.now }
     {
+        RecordType::parse_octets(text.as_bytes())
+    }
+
+    /// As [`RecordType::parse`], of octets.
+    pub fn parse_octets(text: &[u8]) -> Option<RecordType>
+        ensures { result ≡ type_of text.now }
+    {
         let number = number_named(&TYPES, text).or(number_behind("TYPE", text))?;
         Some(RecordType::from(number))
     }
@@ -22,17 +29,24 @@ impl DNSClass {
     pub fn parse(text: &str) -> Option<DNSClass>
         ensures { result ≡ class_of text.now }
     {
+        DNSClass::parse_octets(text.as_bytes())
+    }
+
+    /// As [`DNSClass::parse`], of octets.
+    pub fn parse_octets(text: &[u8]) -> Option<DNSClass>
+        ensures { result ≡ class_of text.now }
+    {
         let number = number_named(&CLASSES, text).or(number_behind("CLASS", text))?;
         Some(DNSClass::from(number))
     }
 }
 
 /// The number whose mnemonic the text is, in any case.
-fn number_named(codes: &[(u16, &'static str)], text: &str) -> Option<u16>
+fn number_named(codes: &[(u16, &'static str)], text: &[u8]) -> Option<u16>
     ensures { result ≡ number_named (map (λ entry. (entry.0, entry.1.now)) codes.now) text.now }
 {
     'codes: for (number, mnemonic) in codes {
-        if is_same_text(mnemonic, text) {
+        if is_same_text(mnemonic.as_bytes(), text) {
             return Some(*number);
         }
     }
@@ -40,17 +54,17 @@ fn number_named(codes: &[(u16, &'static str)], text: &str) -> Option<u16>
 }
 
 /// Whether two texts are equal, the case of letters aside.
-fn is_same_text(x: &str, y: &str) -> bool
+fn is_same_text(x: &[u8], y: &[u8]) -> bool
     ensures { result ≡ same_text x.now y.now }
 {
     x.eq_ignore_ascii_case(y)
 }
 
 /// The number up to 65,535 that the digits behind a word write; the word may be in any case.
-fn number_behind(word: &str, text: &str) -> Option<u16>
+fn number_behind(word: &str, text: &[u8]) -> Option<u16>
     ensures { result ≡ number_behind word.now text.now }
 {
-    let (front, digits) = text.as_bytes().split_at_checked(word.len())?;
+    let (front, digits) = text.split_at_checked(word.len())?;
     if !front.eq_ignore_ascii_case(word.as_bytes()) {
         return None;
     }

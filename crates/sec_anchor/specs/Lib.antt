@@ -2,3 +2,4 @@ pub mod Anchors
 pub mod AnchorTokens
 pub mod Entries
 pub mod Lines
+pub mod ErrorTexts

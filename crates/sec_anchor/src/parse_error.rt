@@ -5,42 +5,62 @@ use dns_wire::NameError;
 use sec_codes::KeyError;
 use sec_keydata::TokenError;
 use std::alloc::{AllocError, AllocFailed};
-use thiserror::Error;
+use std::error::Error;
+use std::fmt;
 
 /// Why a text is not read as anchors: the first token that fails decides.
-#[derive(Debug, PartialEq, Eq, Drop, Error)]
+#[derive(Debug, PartialEq, Eq, Drop)]
 pub enum ParseError {
     /// A token that may not stand where it does.
-    #[error("unexpected token {0:?}")]
     UnexpectedToken(LexToken),
     /// An owner that is no name.
-    #[error("bad name: {0}")]
     BadName(NameError),
     /// A word behind the owner that is neither a class nor a TTL.
-    #[error("bad TTL")]
     BadTtl,
     /// A word behind a TTL that is no class.
-    #[error("bad class")]
     BadClass,
     /// A word behind a class that is no type.
-    #[error("unknown record type")]
     UnknownRecordType,
     /// A type other than DNSKEY.
-    #[error("unsupported record type {0}")]
     UnsupportedRecordType(RecordType),
     /// Words that are no key.
-    #[error("bad key: {0}")]
     Token(TokenError),
     /// A character that no token begins with.
-    #[error("unrecognized character {0:?}")]
     UnrecognizedChar(char),
     /// A key that lacks the form of its algorithm's keys.
-    #[error("bad key: {0}")]
     Key(KeyError),
     /// There was no memory.
-    #[error("out of memory")]
     OutOfMemory,
 }
+
+/// The name of the variant, and what it holds.
+impl fmt::Display for ParseError {
+    ghost use Rattle.std.specs.Prelude.{Some};
+    ghost use Rattle.sec_anchor.specs.ErrorTexts.{parse_error_text};
+
+    ghost output = { λ error. Some (parse_error_text error) };
+
+    fn fmt<W: fmt::Write>(&self, f: &mut fmt::Formatter<W>) -> fmt::Result {
+        match self {
+            ParseError::UnexpectedToken(token) => write!(f, "UnexpectedToken {token}"),
+            ParseError::BadName(fault) => write!(f, "BadName {fault}"),
+            ParseError::BadTtl => f.write_str("BadTtl"),
+            ParseError::BadClass => f.write_str("BadClass"),
+            ParseError::UnknownRecordType => f.write_str("UnknownRecordType"),
+            ParseError::UnsupportedRecordType(rtype) => write!(f, "UnsupportedRecordType {rtype}"),
+            ParseError::Token(cause) => write!(f, "Token {cause}"),
+            ParseError::UnrecognizedChar(character) => write!(
+                f,
+                "UnrecognizedChar {}",
+                u32::from(*character)
+            ),
+            ParseError::Key(cause) => write!(f, "Key {cause}"),
+            ParseError::OutOfMemory => f.write_str("OutOfMemory"),
+        }
+    }
+}
+
+impl Error for ParseError {}
 
 impl From<AllocError> for ParseError {
     ghost use Rattle.std.specs.Prelude.{◌≡◌};

@@ -5,3 +5,4 @@ pub mod KeyForms
 pub mod Schemes
 pub mod DecodedKeys
 pub mod KeptKeys
+pub mod ErrorTexts

@@ -1,5 +1,6 @@
 //! Why a key is refused, or what it signed.
-use thiserror::Error;
+use std::error::Error;
+use std::fmt;
 
 /// The form of a key.
 #[derive(Clone, Copy, Debug, PartialEq, Eq)]
@@ -12,14 +13,28 @@ pub enum KeyKind {
     Rsa,
 }
 
+/// The name of the variant, and what it holds.
+impl fmt::Display for KeyKind {
+    ghost use Rattle.std.specs.Prelude.{Some};
+    ghost use Rattle.sec_codes.specs.ErrorTexts.{key_kind_text};
+
+    ghost output = { λ error. Some (key_kind_text error) };
+
+    fn fmt<W: fmt::Write>(&self, f: &mut fmt::Formatter<W>) -> fmt::Result {
+        f.write_str(match self {
+            KeyKind::Ec => "Ec",
+            KeyKind::Ed => "Ed",
+            KeyKind::Rsa => "Rsa",
+        })
+    }
+}
+
 /// Why a key is refused, or a signature by it.
-#[derive(Clone, Copy, Debug, PartialEq, Eq, Error)]
+#[derive(Clone, Copy, Debug, PartialEq, Eq)]
 pub enum KeyError {
     /// An algorithm, by its number, whose keys are not taken.
-    #[error("unsupported algorithm {0}")]
     UnsupportedAlgorithm(u8),
     /// Another number of octets than keys of the algorithm have.
-    #[error("{found} octets of key, not {expected}")]
     WrongLength {
         /// How many octets a key has.
         expected: usize,
@@ -27,12 +42,32 @@ pub enum KeyError {
         found: usize,
     },
     /// Octets that are no exponent and modulus.
-    #[error("malformed RSA key")]
     BadRsaKey,
     /// The scheme does not accept the signature by a key of this form.
-    #[error("signature by {0:?} key not accepted")]
     Crypto(KeyKind),
     /// There was no memory.
-    #[error("out of memory")]
     OutOfMemory,
 }
+
+/// The name of the variant, and what it holds.
+impl fmt::Display for KeyError {
+    ghost use Rattle.std.specs.Prelude.{Some};
+    ghost use Rattle.sec_codes.specs.ErrorTexts.{key_error_text};
+
+    ghost output = { λ error. Some (key_error_text error) };
+
+    fn fmt<W: fmt::Write>(&self, f: &mut fmt::Formatter<W>) -> fmt::Result {
+        match self {
+            KeyError::UnsupportedAlgorithm(number) => write!(f, "UnsupportedAlgorithm {number}"),
+            KeyError::WrongLength { expected, found } => write!(
+                f,
+                "WrongLength {expected} {found}"
+            ),
+            KeyError::BadRsaKey => f.write_str("BadRsaKey"),
+            KeyError::Crypto(kind) => write!(f, "Crypto {kind}"),
+            KeyError::OutOfMemory => f.write_str("OutOfMemory"),
+        }
+    }
+}
+
+impl Error for KeyError {}

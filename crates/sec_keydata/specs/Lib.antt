@@ -11,3 +11,4 @@ pub mod OptionalAlgorithms
 pub mod PublicKeyFields
 pub mod Tokens
 pub mod WellFormedKeys
+pub mod ErrorTexts

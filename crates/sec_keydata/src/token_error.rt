@@ -1,6 +1,7 @@
 //! Why a text is no record data.
 use std::alloc::AllocError;
-use thiserror::Error;
+use std::error::Error;
+use std::fmt;
 
 /// A field of the text of a DNSKEY or a DS (RFC 4034 2.2, 5.3).
 #[derive(Clone, Copy, Debug, PartialEq, Eq)]
@@ -21,28 +22,63 @@ pub enum TokenField {
     Digest,
 }
 
+/// The name of the variant, and what it holds.
+impl fmt::Display for TokenField {
+    ghost use Rattle.std.specs.Prelude.{Some};
+    ghost use Rattle.sec_keydata.specs.ErrorTexts.{token_field_text};
+
+    ghost output = { λ error. Some (token_field_text error) };
+
+    fn fmt<W: fmt::Write>(&self, f: &mut fmt::Formatter<W>) -> fmt::Result {
+        f.write_str(match self {
+            TokenField::Flags => "Flags",
+            TokenField::Protocol => "Protocol",
+            TokenField::Algorithm => "Algorithm",
+            TokenField::PublicKey => "PublicKey",
+            TokenField::KeyTag => "KeyTag",
+            TokenField::DigestType => "DigestType",
+            TokenField::Digest => "Digest",
+        })
+    }
+}
+
 /// Why a text is not read as a DNSKEY or a DS.
-#[derive(Clone, Copy, Debug, PartialEq, Eq, Error)]
+#[derive(Clone, Copy, Debug, PartialEq, Eq)]
 pub enum TokenError {
     /// The text ends before a field.
-    #[error("{0:?} missing")]
     Missing(TokenField),
     /// A number that isn't decimal digits, or that its field does not hold.
-    #[error("bad number")]
     BadNumber,
     /// The protocol of a DNSKEY is not 3.
-    #[error("DNSKEY protocol is not 3")]
     ProtocolNot3,
     /// A key that is not the base64 of octets.
-    #[error("bad base64")]
     BadBase64,
     /// A digest with a pair of octets that isn't two hexadecimal digits.
-    #[error("bad hexadecimal")]
     BadHex,
     /// There was no memory.
-    #[error("out of memory")]
     OutOfMemory,
 }
+
+/// The name of the variant, and what it holds.
+impl fmt::Display for TokenError {
+    ghost use Rattle.std.specs.Prelude.{Some};
+    ghost use Rattle.sec_keydata.specs.ErrorTexts.{token_error_text};
+
+    ghost output = { λ error. Some (token_error_text error) };
+
+    fn fmt<W: fmt::Write>(&self, f: &mut fmt::Formatter<W>) -> fmt::Result {
+        match self {
+            TokenError::Missing(field) => write!(f, "Missing {field}"),
+            TokenError::BadNumber => f.write_str("BadNumber"),
+            TokenError::ProtocolNot3 => f.write_str("ProtocolNot3"),
+            TokenError::BadBase64 => f.write_str("BadBase64"),
+            TokenError::BadHex => f.write_str("BadHex"),
+            TokenError::OutOfMemory => f.write_str("OutOfMemory"),
+        }
+    }
+}
+
+impl Error for TokenError {}
 
 impl From<AllocError> for TokenError {
     ghost use Rattle.std.specs.Prelude.{◌≡◌};

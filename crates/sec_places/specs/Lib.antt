@@ -1,3 +1,4 @@
 pub mod Rooms
 pub mod SignedSets
 pub mod Walks
+pub mod ErrorTexts

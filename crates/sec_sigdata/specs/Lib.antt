@@ -8,3 +8,4 @@ pub mod TsigAlgorithms
 pub mod TsigErrors
 pub mod TsigRecords
 pub mod TypeLists
+pub mod ErrorTexts

@@ -4,36 +4,54 @@ ghost use Rattle.std.specs.Prelude.{◌≡◌, IfOk};
 use crate::tsig_algorithm::TsigAlgorithm;
 use dns_wire::{DecodeError, OutOfMemory};
 use std::alloc::AllocError;
-use thiserror::Error;
+use std::error::Error;
+use std::fmt;
 
 /// The answer of a call that signs or checks.
 pub type DnsSecResult<T> = Result<T, DnsSecError>;
 
 /// Why a signature is not made or not accepted.
-#[derive(Debug, PartialEq, Eq, Drop, Error)]
+#[derive(Debug, PartialEq, Eq, Drop)]
 pub enum DnsSecError {
     /// The tag is not the MAC of the message.
-    #[error("the MAC is not that of the message")]
     HmacInvalid,
     /// A text that stands in the program.
-    #[error("{0}")]
     Message(&'static str),
     /// A text that was made.
-    #[error("{0}")]
     Msg(String),
     /// Octets that were not read.
-    #[error("{0}")]
     Proto(DecodeError),
     /// An algorithm whose MACs are not made.
-    #[error("no MACs of algorithm {0}")]
     TsigUnsupportedMacAlgorithm(TsigAlgorithm),
     /// Another key or algorithm than the signer's.
-    #[error("TSIG by another key")]
     TsigWrongKey,
     /// There was no memory.
-    #[error("out of memory")]
     OutOfMemory,
 }
+
+/// The name of the variant, and what it holds.
+impl fmt::Display for DnsSecError {
+    ghost use Rattle.std.specs.Prelude.{Some};
+    ghost use Rattle.sec_sigdata.specs.ErrorTexts.{dns_sec_error_text};
+
+    ghost output = { λ error. Some (dns_sec_error_text error) };
+
+    fn fmt<W: fmt::Write>(&self, f: &mut fmt::Formatter<W>) -> fmt::Result {
+        match self {
+            DnsSecError::HmacInvalid => f.write_str("HmacInvalid"),
+            DnsSecError::Message(text) => write!(f, "Message {text}"),
+            DnsSecError::Msg(text) => write!(f, "Msg {text}"),
+            DnsSecError::Proto(fault) => write!(f, "Proto {fault}"),
+            DnsSecError::TsigUnsupportedMacAlgorithm(algorithm) => {
+                write!(f, "TsigUnsupportedMacAlgorithm {algorithm}")
+            }
+            DnsSecError::TsigWrongKey => f.write_str("TsigWrongKey"),
+            DnsSecError::OutOfMemory => f.write_str("OutOfMemory"),
+        }
+    }
+}
+
+impl Error for DnsSecError {}
 
 impl DnsSecError {
     ghost use Rattle.sec_sigdata.specs.Errors.{IsCopyOf};

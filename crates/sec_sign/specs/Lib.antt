@@ -8,3 +8,4 @@ pub mod Verifying
 pub mod Pairs
 pub mod KeyedHashes
 pub mod OneReading
+pub mod ErrorTexts

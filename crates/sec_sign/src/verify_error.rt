@@ -1,21 +1,37 @@
 //! Why a signature of a record set is not accepted.
 use crate::tbs_error::TbsError;
 use sec_codes::KeyError;
-use thiserror::Error;
+use std::error::Error;
+use std::fmt;
 
 /// Why a signature of a record set is not accepted. Where several causes apply, the first in this order is answered.
-#[derive(Clone, Copy, Debug, PartialEq, Eq, Error)]
+#[derive(Clone, Copy, Debug, PartialEq, Eq)]
 pub enum VerifyRrsigError {
     /// Why there are no octets that it could be of.
-    #[error("{0}")]
     Tbs(TbsError),
     /// Why the key is refused, or its signature.
-    #[error("{0}")]
     Key(KeyError),
     /// There was no memory.
-    #[error("out of memory")]
     OutOfMemory,
 }
+
+/// The name of the variant, and what it holds.
+impl fmt::Display for VerifyRrsigError {
+    ghost use Rattle.std.specs.Prelude.{Some};
+    ghost use Rattle.sec_sign.specs.ErrorTexts.{verify_rrsig_error_text};
+
+    ghost output = { λ error. Some (verify_rrsig_error_text error) };
+
+    fn fmt<W: fmt::Write>(&self, f: &mut fmt::Formatter<W>) -> fmt::Result {
+        match self {
+            VerifyRrsigError::Tbs(cause) => write!(f, "Tbs {cause}"),
+            VerifyRrsigError::Key(cause) => write!(f, "Key {cause}"),
+            VerifyRrsigError::OutOfMemory => f.write_str("OutOfMemory"),
+        }
+    }
+}
+
+impl Error for VerifyRrsigError {}
 
 impl From<TbsError> for VerifyRrsigError {
     ghost use Rattle.std.specs.Prelude.{◌≡◌};

@@ -11,3 +11,4 @@ pub mod Requests
 pub mod Responses
 pub mod Replies
 pub mod Laws
+pub mod ErrorTexts

@@ -1,30 +1,46 @@
 //! Why a message was not signed.
 use dns_wire::{EmitError, OutOfMemory};
 use std::alloc::AllocError;
-use thiserror::Error;
+use std::error::Error;
+use std::fmt;
 
 /// Why a message was not signed: the first that holds.
-#[derive(Clone, Copy, Debug, PartialEq, Eq, Error)]
+#[derive(Clone, Copy, Debug, PartialEq, Eq)]
 pub enum TsigSignError {
     /// An answer with the error of this number is not signed (RFC 8945 5.3.2).
-    #[error("an answer with error {0} is not signed")]
     UnsignedError(u16),
     /// The message can't be written.
-    #[error("{0}")]
     Message(EmitError),
     /// A time is 2^48 or more.
-    #[error("time of 2^48 seconds or more")]
     TimeTooLarge,
     /// The MAC of the message before has more than 65,535 octets.
-    #[error("MAC of more than 65535 octets")]
     MacTooLong,
     /// There was no memory.
-    #[error("out of memory")]
     OutOfMemory,
     /// An answer with the error BADTIME tells the server's time (RFC 8945 5.2.3).
-    #[error("an answer with BADTIME needs the server's time")]
     NeedsServerTime,
 }
+
+/// The name of the variant, and what it holds.
+impl fmt::Display for TsigSignError {
+    ghost use Rattle.std.specs.Prelude.{Some};
+    ghost use Rattle.sec_tsig.specs.ErrorTexts.{tsig_sign_error_text};
+
+    ghost output = { λ error. Some (tsig_sign_error_text error) };
+
+    fn fmt<W: fmt::Write>(&self, f: &mut fmt::Formatter<W>) -> fmt::Result {
+        match self {
+            TsigSignError::UnsignedError(number) => write!(f, "UnsignedError {number}"),
+            TsigSignError::Message(cause) => write!(f, "Message {cause}"),
+            TsigSignError::TimeTooLarge => f.write_str("TimeTooLarge"),
+            TsigSignError::MacTooLong => f.write_str("MacTooLong"),
+            TsigSignError::OutOfMemory => f.write_str("OutOfMemory"),
+            TsigSignError::NeedsServerTime => f.write_str("NeedsServerTime"),
+        }
+    }
+}
+
+impl Error for TsigSignError {}
 
 impl From<AllocError> for TsigSignError {
     ghost use Rattle.std.specs.Prelude.{◌≡◌};

@@ -1,35 +1,51 @@
 //! Why a message is no valid answer.
 use std::alloc::AllocError;
-use thiserror::Error;
+use std::error::Error;
+use std::fmt;
 
 /// Why a message is no valid answer: the first that holds.
-#[derive(Clone, Copy, Debug, PartialEq, Eq, Error)]
+#[derive(Clone, Copy, Debug, PartialEq, Eq)]
 pub enum VerifyError {
     /// The octets are no message.
-    #[error("no message")]
     Decode,
     /// Its last additional record is no TSIG.
-    #[error("no transaction signature")]
     MissingTsig,
     /// The TSIG names another key, or another algorithm.
-    #[error("another key or algorithm")]
     TsigWrongKey,
     /// The MAC is shorter than the algorithm's.
-    #[error("truncated MAC")]
     TruncatedMac,
     /// The MAC is not that of the message.
-    #[error("wrong MAC")]
     HmacInvalid,
     /// It was signed before the last answer, or the request was not sent within its window.
-    #[error("signed at another time")]
     Outdated,
     /// It is no response.
-    #[error("no response")]
     NotAResponse,
     /// There was no memory.
-    #[error("out of memory")]
     OutOfMemory,
 }
+
+/// The name of the variant, and what it holds.
+impl fmt::Display for VerifyError {
+    ghost use Rattle.std.specs.Prelude.{Some};
+    ghost use Rattle.sec_tsig.specs.ErrorTexts.{verify_error_text};
+
+    ghost output = { λ error. Some (verify_error_text error) };
+
+    fn fmt<W: fmt::Write>(&self, f: &mut fmt::Formatter<W>) -> fmt::Result {
+        f.write_str(match self {
+            VerifyError::Decode => "Decode",
+            VerifyError::MissingTsig => "MissingTsig",
+            VerifyError::TsigWrongKey => "TsigWrongKey",
+            VerifyError::TruncatedMac => "TruncatedMac",
+            VerifyError::HmacInvalid => "HmacInvalid",
+            VerifyError::Outdated => "Outdated",
+            VerifyError::NotAResponse => "NotAResponse",
+            VerifyError::OutOfMemory => "OutOfMemory",
+        })
+    }
+}
+
+impl Error for VerifyError {}
 
 impl From<AllocError> for VerifyError {
     ghost use Rattle.std.specs.Prelude.{◌≡◌};
