@@ -1,0 +1,5 @@
+pub mod Refusals
+pub mod Rows
+pub mod CallWords
+pub mod KeyWords
+pub mod CallTexts
