@@ -16,8 +16,8 @@ use Rattle.sec_check.specs.Reports.{Answered, CheckerData}
 use Rattle.dnscheck.specs.declared.counts.Counts.{Counts}
 use Rattle.dnscheck.specs.Counts.{no_counts, with_answer, with_answers, with_mark, with_marks, with_refused}
 use Rattle.dnscheck.specs.Demos.{counts_text, demo_answer, demo_script, demo_status, demo_text, script_counts, signed_found}
-use Rattle.dnscheck.specs.Script.{Answer, Script}
-use Rattle.dnscheck.specs.Session.{answer_verdict, next_chain, script_status, signed, signed_status, verdicts}
+use Rattle.check_script.specs.Script.{Answer, Script}
+use Rattle.check_script.specs.Session.{answer_verdict, next_chain, script_status, signed, signed_status, verdicts}
 
 -- ---- record sets
 

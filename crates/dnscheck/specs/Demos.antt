@@ -11,8 +11,8 @@ use Rattle.sec_check.specs.Reports.{Answered}
 use Rattle.dns_demo.specs.Demo.{demo_answers, demo_entries, demo_request, demo_signer, demo_time}
 use Rattle.dnscheck.specs.declared.counts.Counts.{Counts}
 use Rattle.dnscheck.specs.Counts.{no_counts, with_answers}
-use Rattle.dnscheck.specs.Script.{Answer, Script}
-use Rattle.dnscheck.specs.Session.{script_status, signed, verdicts}
+use Rattle.check_script.specs.Script.{Answer, Script}
+use Rattle.check_script.specs.Session.{script_status, signed, verdicts}
 
 -- an answer that is checked at the moment of the demo
 abbrev pub demo_answer : List ℕ → Answer

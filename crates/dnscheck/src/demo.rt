@@ -5,11 +5,10 @@ ghost use Rattle.dns_io.specs.declared.status.Status.TheVariants.{Accepted, Refu
 ghost use Rattle.dnscheck.specs.Counts.{no_counts, with_answer, with_answers};
 ghost use Rattle.dnscheck.specs.Demos.{demo_answer, demo_script, demo_status, demo_text, script_counts};
 ghost use Rattle.dnscheck.specs.Demos.{answer_counts_text, counts_text, set_counts_text};
-ghost use Rattle.dnscheck.specs.Session.{answer_verdict, next_chain, signed, verdicts};
+ghost use Rattle.check_script.specs.Session.{answer_verdict, next_chain, signed, verdicts};
 
 use crate::counts::Counts;
-use crate::script::{Answer, Request, Script};
-use crate::session::sign_request;
+use check_script::{Answer, Request, Script, sign_request};
 use dns_wire::OutOfMemory;
 use sec_check::{CheckError, Checker};
 use sec_codes::SignatureScheme;
@@ -88,7 +87,7 @@ fn count_answers<S: SignatureScheme>(
 }
 
 /// What the answers of a script come to, counted.
-#[tactic(auto, unfolding(crate::specs::Demos::script_counts, crate::specs::Session::signed))]
+#[tactic(auto, unfolding(crate::specs::Demos::script_counts, check_script::specs::Session::signed))]
 fn script_counts<S: SignatureScheme>(
     alloc: Global,
     scheme: &S,

@@ -2,22 +2,16 @@
 //! and checks the answers, one behind the other, and the signatures of the record sets in them.
 #![tactic(auto)]
 
-mod anchor;
 mod command;
-mod command_line;
 mod counts;
 mod demo;
-mod error;
 pub mod run;
-mod script;
-mod session;
-mod text;
 
 pub use command::Command;
-use command_line::{behind_program_name, exit_code, status_without_words};
 pub use dns_io::{
     Failed, MemSink, MemSource, PlainSource, Sink, Source, Status, StdSink, StdSource,
 };
+use dns_script::{behind_program_name, exit_code, status_without_words};
 use sec_sign::KeyedHash;
 use std::process::ExitCode;
 use std::{env, io};
@@ -36,7 +30,5 @@ fn main(rt: HostRuntime) -> ExitCode {
     })
 }
 
-#[cfg(test)]
-mod rows;
 #[cfg(test)]
 mod tests;

@@ -2,13 +2,15 @@
 
 ghost use Rattle.std.specs.Prelude.{◌≡◌, ◌≤◌, ◌+◌, ◌↔◌, IfSome, None};
 ghost use Rattle.dns_io.specs.Counts.{raised, Rose, RoseBy};
+ghost use Rattle.check_script.specs.Session.{session};
 ghost use Rattle.dnscheck.specs.Commands.{command_of, UnderCheck, UnderDemo};
 ghost use Rattle.dnscheck.specs.Demos.{demo_text, IsDemoStatus};
-ghost use Rattle.dnscheck.specs.Session.{session, IsStatusFor, WritesNothing, WritesText, AppendsText, SessionWritten};
+ghost use Rattle.dns_script.specs.Sessions.{WritesNothing, WritesText};
+ghost use Rattle.dnscheck.specs.Session.{IsStatusFor, AppendsText, SessionWritten};
 
 use crate::command::{Command, command_of};
 use crate::demo::demo;
-use crate::session::session;
+use check_script::session;
 use dns_io::{INPUT_LIMIT, ReadError, Sink, Source, Status, read_all, write_all};
 use sec_codes::SignatureScheme;
 use std::alloc::Global;

@@ -1,0 +1,4 @@
+pub mod ScriptLines
+pub mod RequestLength
+pub mod Signable
+pub mod AnswerLines
