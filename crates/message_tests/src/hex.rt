@@ -11,7 +11,7 @@ pub(crate) fn octets(alloc: Global, hex: &str) -> Result<Vec<u8>, Fail> {
     Ok(octets)
 }
 
-/// The octets of pieces of hexadecimal digits, one behind the other.
+/// The octets of pieces of hexadecimal digits, one after the other.
 pub(crate) fn joined(alloc: Global, pieces: &[&str]) -> Result<Vec<u8>, Fail> {
     let mut all = Vec::new(alloc);
     for piece in pieces {

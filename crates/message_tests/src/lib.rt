@@ -1,4 +1,4 @@
-//! Tests of messages: read, viewed, written, and their proofs in one word.
+//! Tests of messages that no line of data says: limits, values made by hand, and proofs in one word.
 #![tactic(auto)]
 
 #[cfg(test)]
@@ -9,5 +9,3 @@ mod limits;
 mod messages;
 #[cfg(test)]
 mod summary;
-#[cfg(test)]
-mod types;

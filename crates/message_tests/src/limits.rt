@@ -1,4 +1,4 @@
-//! Messages at the limits of their lengths and counts, and one whose names run through many pointers.
+//! Messages at the limits of their lengths and counts.
 use crate::hex::octets;
 use dns_message::{Message, MessageView, Query, Record};
 use dns_names::Name;
@@ -8,7 +8,7 @@ use dns_wire::{BinEncodable, BinEncoder, DecodeError, EmitError, Octets};
 use std::alloc::Global;
 use std::test::Fail;
 
-/// An answer of one address, with zeros behind it up to a length.
+/// An answer of one address, with zeros after it up to a length.
 fn padded(alloc: Global, length: usize) -> Result<Vec<u8>, Fail> {
     let mut answer = octets(
         alloc,
@@ -90,37 +90,5 @@ fn a_part_has_at_most_65535_entries(rt: HostRuntime) -> Result<(), Fail> {
         with_questions(rt.alloc(), 65536)?,
         Err(EmitError::CountTooLarge)
     );
-    Ok(())
-}
-
-/// A message of 400 answers, each of whose owners is a pointer to the owner before.
-fn chained(alloc: Global) -> Result<Vec<u8>, Fail> {
-    let mut message = octets(alloc, "123481800001019000000000076578616d706c650000010001")?;
-    for i in 0..400u16 {
-        let target = if i == 0 { 12 } else { 9 + 16 * i };
-        message.extend_from_slice(&(0xc000 + target).to_be_bytes())?;
-        message.extend_from_slice(b"\x00\x01\x00\x01\x00\x00\x0e\x10\x00\x04\xc0\x00\x02\x01")?;
-    }
-    Ok(message)
-}
-
-/// Where a message ends.
-fn view_end(octets: &[u8]) -> Option<usize> {
-    match MessageView::parse(octets) {
-        Ok(view) => Some(view.end()),
-        Err(_) => None,
-    }
-}
-
-#[test]
-fn owners_run_through_many_pointers(rt: HostRuntime) -> Result<(), Fail> {
-    let octets_read = chained(rt.alloc())?;
-    let message = Message::from_vec(rt.alloc(), octets_read.as_slice())?;
-    let owner = Name::from_ascii("example.")?;
-    assert_eq!(rt; message.answers.len(), 400);
-    for rr in message.answers.as_slice() {
-        assert!(rt; rr.name == owner);
-    }
-    assert_eq!(rt; view_end(octets_read.as_slice()), Some(25 + 16 * 400));
     Ok(())
 }

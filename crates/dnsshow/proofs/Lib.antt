@@ -1,0 +1,4 @@
+pub mod Gathered
+pub mod JoinedSteps
+pub mod KeyParts
+pub mod Listings

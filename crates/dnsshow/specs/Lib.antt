@@ -1,0 +1,11 @@
+pub mod NameCalls
+pub mod TypeCalls
+pub mod CodeCalls
+pub mod DigestCalls
+pub mod TextCalls
+pub mod AnchorCalls
+pub mod DataCalls
+pub mod KeyCalls
+pub mod ShownMessages
+pub mod MessageCalls
+pub mod Shown

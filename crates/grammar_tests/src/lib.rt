@@ -1,5 +1,0 @@
-//! Tests of fields that are written and checked.
-#![tactic(auto)]
-
-#[cfg(test)]
-mod grammar;
