@@ -5,8 +5,6 @@
 #[cfg(test)]
 mod anchors;
 #[cfg(test)]
-mod bounds;
-#[cfg(test)]
 mod fields;
 #[cfg(test)]
 mod hashes;
@@ -16,6 +14,8 @@ mod keys;
 mod limits;
 #[cfg(test)]
 mod names;
+#[cfg(test)]
+mod numbers;
 #[cfg(test)]
 mod records;
 #[cfg(test)]

@@ -7,7 +7,7 @@ use dns_wire::{BinDecoder, EmitError, Octets};
 use sec_codes::{Algorithm, PublicKeyBuf};
 use sec_digest::{DigestType, Nsec3HashAlgorithm};
 use sec_keydata::{DNSKEY, KeyDataError};
-use sec_sigdata::{NSEC3PARAM, TSIG, TsigAlgorithm};
+use sec_sigdata::NSEC3PARAM;
 use std::alloc::{AllocError, Global};
 use std::test::Fail;
 
@@ -80,30 +80,4 @@ fn strings_and_salts_have_at_most_255_octets(rt: HostRuntime) {
     assert_eq!(rt; string_len(alloc, 256), Err(EmitError::StringTooLong));
     assert_eq!(rt; salt_len(alloc, 255), Ok(260));
     assert_eq!(rt; salt_len(alloc, 256), Err(EmitError::SaltTooLong));
-}
-
-/// How many octets are written of a TSIG of this time, with a MAC and other data of so many octets.
-fn tsig_len(alloc: Global, time: u64, mac: usize, other: usize) -> Result<usize, EmitError> {
-    let (mac, other) = (vec![in alloc; 0; mac]?, vec![in alloc; 0; other]?);
-    let tsig = TSIG::new(TsigAlgorithm::HmacSha256, time, 300, mac, 4660, None, other);
-    Ok(written(alloc, &tsig)?.len())
-}
-
-#[test]
-fn times_and_macs_of_tsig_have_limits(rt: HostRuntime) {
-    let alloc = rt.alloc();
-    let end = 1 << 48;
-    assert_eq!(rt; tsig_len(alloc, end - 1, 65_535, 65_535), Ok(131_099));
-    assert_eq!(rt;
-        tsig_len(alloc, end, 65_536, 65_536),
-        Err(EmitError::TimeTooLarge)
-    );
-    assert_eq!(rt;
-        tsig_len(alloc, end - 1, 65_536, 65_536),
-        Err(EmitError::MacTooLong)
-    );
-    assert_eq!(rt;
-        tsig_len(alloc, end - 1, 0, 65_536),
-        Err(EmitError::OtherTooLong)
-    );
 }
