@@ -5,7 +5,7 @@ use Rattle.std.proofs.lemmas.List.{drop_all, append-nil}
 use Rattle.std.specs.List.{list_all}
 use Rattle.sec_anchor.specs.Entries.{EntryData}
 use Rattle.sec_sign.specs.Verifying.{Relation}
-use Rattle.sec_tsig.specs.Verdict.{Chain}
+use Rattle.sec_tsig.specs.Verdict.{TsigChain}
 use Rattle.sec_check.specs.Reports.{Answered, CheckerData}
 use Rattle.check_script.specs.Script.{Answer}
 use Rattle.check_script.specs.Session.{answer_verdict, next_chain, verdicts, answer_text, answers_text}
@@ -34,34 +34,34 @@ pub record HasWritten (accepts : Relation) (answers : List Answer) (before : Lis
       ≡ list_all is_ok (verdicts accepts first.entries first.chain answers)
 
 module _ (accepts : Relation) (entries : List EntryData) where
-  abbrev here_verdict : Chain → Answer → Answered
+  abbrev here_verdict : TsigChain → Answer → Answered
   here_verdict = answer_verdict accepts entries
 
-  abbrev all_verdicts : Chain → List Answer → List Answered
+  abbrev all_verdicts : TsigChain → List Answer → List Answered
   all_verdicts = verdicts accepts entries
 
-  abbrev text_of : List Answer → ℕ → Chain → List ℕ
+  abbrev text_of : List Answer → ℕ → TsigChain → List ℕ
   text_of answers n chain = answers_text n (all_verdicts chain answers)
 
-  next_text : (answer : Answer) (rest : List Answer) (n : ℕ) (chain : Chain)
+  next_text : (answer : Answer) (rest : List Answer) (n : ℕ) (chain : TsigChain)
       → text_of (answer ∷ rest) n chain
       ≡ answer_text n (here_verdict chain answer)
       ++ text_of rest (n + 1) (next_chain chain (here_verdict chain answer))
   unfolding verdicts
   next_text answer rest n chain = refl
 
-  next_all : (answer : Answer) (rest : List Answer) (chain : Chain)
+  next_all : (answer : Answer) (rest : List Answer) (chain : TsigChain)
       → list_all is_ok (all_verdicts chain (answer ∷ rest))
       ≡ (is_ok (here_verdict chain answer)
       && list_all is_ok (all_verdicts (next_chain chain (here_verdict chain answer)) rest))
   unfolding verdicts
   next_all answer rest chain = refl
 
-  no_text : (n : ℕ) (chain : Chain) → text_of [] n chain ≡ []
+  no_text : (n : ℕ) (chain : TsigChain) → text_of [] n chain ≡ []
   unfolding verdicts
   no_text n chain = refl
 
-  none_refused : (chain : Chain) → list_all is_ok (all_verdicts chain []) ≡ true
+  none_refused : (chain : TsigChain) → list_all is_ok (all_verdicts chain []) ≡ true
   unfolding verdicts
   none_refused chain = refl
 
@@ -94,13 +94,13 @@ module _ (accepts : Relation) (answers : List Answer) (before : List ℕ) (first
       let fine2 : ok ≡ is_ok here = fine ∙ ap (λ (found : Answered). is_ok found) judged_is in
       record {
         entries = stay ∙ has.entries;
-        lines = ap (λ (c : Chain). text2 ++ text_of accepts entries rest (i + 1 + 1) c) moved2
+        lines = ap (λ (c : TsigChain). text2 ++ text_of accepts entries rest (i + 1 + 1) c) moved2
             ∙ ap (λ (t : List ℕ). t ++ text_of accepts entries rest (i + 1 + 1) next) put2
             ∙ append_assoc text (answer_text (i + 1) here) (text_of accepts entries rest (i + 1 + 1) next)
             ∙ ap (λ (t : List ℕ). text ++ t) (sym (next_text accepts entries answer rest (i + 1) chain))
             ∙ ap (λ (l : List Answer). text ++ text_of accepts entries l (i + 1) chain) (sym parts)
             ∙ has.lines;
-        all = ap (λ (c : Chain). (accepted && ok) && list_all is_ok (verdicts accepts entries c rest)) moved2
+        all = ap (λ (c : TsigChain). (accepted && ok) && list_all is_ok (verdicts accepts entries c rest)) moved2
             ∙ both accepted ok (list_all is_ok (verdicts accepts entries next rest))
             ∙ ap (λ (b : Bool). accepted && (b && list_all is_ok (verdicts accepts entries next rest))) fine2
             ∙ ap (λ (b : Bool). accepted && b) (sym (next_all accepts entries answer rest chain))

@@ -13,9 +13,9 @@ use Rattle.sec_tsig.specs.declared.sign_error.TsigSignError.TheVariants.{TimeToo
 use Rattle.sec_tsig.specs.Requests.{is_request, reads_request, signed_request}
 use Rattle.sec_tsig.specs.Signers.{Signer, request_record}
 use Rattle.sec_tsig.specs.Tsig.{TsigRecord, with_record}
-use Rattle.sec_tsig.specs.Verdict.{Chain, first_chain, signed_octets}
+use Rattle.sec_tsig.specs.Verdict.{TsigChain, first_chain, signed_octets}
 
-abbrev signed_if : Signer → ℕ → List ℕ → Bool → Option (List ℕ × Chain)
+abbrev signed_if : Signer → ℕ → List ℕ → Bool → Option (List ℕ × TsigChain)
 signed_if signer time octets request =
     cond request (option_map (λ signed. (signed, first_chain signer time octets))
     (result_ok (with_record octets (request_record signer time octets)))) None
@@ -32,7 +32,7 @@ request_has_header signer time octets is = at (message_at rdata_table octets) re
         none e = absurd cc
 
 -- a request with its record is the signed request
-pub request_signed : (signer : Signer) (time : ℕ) (octets new : List ℕ) (record_of : TsigRecord) (chain : Chain)
+pub request_signed : (signer : Signer) (time : ℕ) (octets new : List ℕ) (record_of : TsigRecord) (chain : TsigChain)
     → IsSome (signed_request signer time octets) → signed_octets signer time octets ≡ Ok (record_of, chain)
     → with_record octets record_of ≡ Ok new → signed_request signer time octets ≡ Some (new, chain)
 request_signed signer time octets new record_of chain is signs put = at (is_request octets) refl
@@ -50,10 +50,10 @@ request_signed signer time octets new record_of chain is signs put = at (is_requ
             late : nat_lt time (2 ^ 48) ≡ false → signed_octets signer time octets ≡ Err TimeTooLarge
             late e = rw e refl
 
-            none : (let failed : Result (TsigRecord × Chain) TsigSignError = Err TimeTooLarge in failed)
+            none : (let failed : Result (TsigRecord × TsigChain) TsigSignError = Err TimeTooLarge in failed)
                 ≡ Ok (record_of, chain) → ⊥
             none e = absurd cc
-        go true b = rw h (ap (λ (x : TsigRecord × Chain). option_map (λ signed. (signed, x.1))
+        go true b = rw h (ap (λ (x : TsigRecord × TsigChain). option_map (λ signed. (signed, x.1))
             (result_ok (with_record octets x.0))) (same (sym (early b) ∙ signs))
             ∙ ap (λ (written : Result (List ℕ) EmitError). option_map (λ signed. (signed, chain)) (result_ok written)) put)
           where
@@ -61,8 +61,8 @@ request_signed signer time octets new record_of chain is signs put = at (is_requ
                 ≡ Ok (request_record signer time octets, first_chain signer time octets)
             early e = rw e refl
 
-            same : (let done : Result (TsigRecord × Chain) TsigSignError
+            same : (let done : Result (TsigRecord × TsigChain) TsigSignError
                 = Ok (request_record signer time octets, first_chain signer time octets) in done)
                 ≡ Ok (record_of, chain)
-                → ◌≡◌ {A = TsigRecord × Chain} (request_record signer time octets, first_chain signer time octets) (record_of, chain)
+                → ◌≡◌ {A = TsigRecord × TsigChain} (request_record signer time octets, first_chain signer time octets) (record_of, chain)
             same e = cc

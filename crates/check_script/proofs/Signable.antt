@@ -10,7 +10,7 @@ use Rattle.dns_text.specs.Words.{number_below, decode_hex}
 use Rattle.dns_wire.specs.Reading.{◌>>=◌}
 use Rattle.sec_tsig.specs.Requests.{signed_request}
 use Rattle.sec_tsig.specs.Signers.{Signer}
-use Rattle.sec_tsig.specs.Verdict.{Chain}
+use Rattle.sec_tsig.specs.Verdict.{TsigChain}
 use Rattle.sec_anchor.specs.Entries.{EntryData}
 use Rattle.check_script.specs.declared.error.LineError.{LineError}
 use Rattle.check_script.specs.declared.error.LineError.TheVariants.{Fault}
@@ -42,12 +42,12 @@ refused error = record { all = tt }
 abbrev fault : LineError
 fault = Fault reasons.Request
 
-with_octets : (signer : Signer) (time : ℕ) (octets : List ℕ) (o : Option (List ℕ × Chain))
+with_octets : (signer : Signer) (time : ℕ) (octets : List ℕ) (o : Option (List ℕ × TsigChain))
     → signed_request signer time octets ≡ o
     → IfOk (ok_or o fault >>= λ _. let request : Result Request LineError
     = Ok (record { octets = octets; time = time }) in request) (CanBeSigned signer)
 with_octets signer time octets None h = tt
-with_octets signer time octets (Some begun) h = ap (λ (o : Option (List ℕ × Chain)). is_some o) h
+with_octets signer time octets (Some begun) h = ap (λ (o : Option (List ℕ × TsigChain)). is_some o) h
 
 abbrev read_octets : Signer → ℕ → List ℕ → Result Request LineError
 read_octets signer time octets =

@@ -6,7 +6,7 @@ use Rattle.dns_io.specs.declared.status.Status.{Status}
 use Rattle.dns_io.specs.declared.status.Status.TheVariants.{ScriptFault, Refused, Accepted}
 use Rattle.sec_anchor.specs.Entries.{EntryData}
 use Rattle.sec_sign.specs.Verifying.{Relation}
-use Rattle.sec_tsig.specs.Verdict.{Chain}
+use Rattle.sec_tsig.specs.Verdict.{TsigChain}
 use Rattle.sec_tsig.specs.Requests.{signed_request}
 use Rattle.sec_check.specs.Marks.{Trust}
 use Rattle.sec_check.specs.Reports.{Answered, answered}
@@ -20,16 +20,16 @@ abbrev pub trust_for : Relation → List EntryData → Answer → Trust
 trust_for accepts entries answer = record { accepts = accepts; moment = answer.moment; entries = entries }
 
 -- what an answer comes to for a chain: its report and the chain behind it, or the cause for which it is refused
-abbrev pub answer_verdict : Relation → List EntryData → Chain → Answer → Answered
+abbrev pub answer_verdict : Relation → List EntryData → TsigChain → Answer → Answered
 answer_verdict accepts entries chain answer = answered (trust_for accepts entries answer) chain answer.octets
 
 -- A refused answer leaves the chain as it was.
-abbrev pub next_chain : Chain → Answered → Chain
+abbrev pub next_chain : TsigChain → Answered → TsigChain
 next_chain chain (Ok found) = found.1
 next_chain chain (Err _) = chain
 
 -- what each answer comes to, for the chain of those accepted before it
-unfoldable pub verdicts : Relation → List EntryData → Chain → List Answer → List Answered
+unfoldable pub verdicts : Relation → List EntryData → TsigChain → List Answer → List Answered
 verdicts accepts entries chain [] = []
 verdicts accepts entries chain (answer ∷ rest) =
     answer_verdict accepts entries chain answer
@@ -45,20 +45,20 @@ abbrev pub answers_text : ℕ → List Answered → List ℕ
 answers_text number found = flat_map (λ numbered. answer_text numbered.0 numbered.1) (enumerate_from number found)
 
 -- the signed request and what the answers come to for the chain that it begins, where there is one
-abbrev pub signed_text : Relation → List EntryData → List Answer → Option (List ℕ × Chain) → List ℕ
+abbrev pub signed_text : Relation → List EntryData → List Answer → Option (List ℕ × TsigChain) → List ℕ
 signed_text accepts entries answers (Some begun) =
     request_text begun.0 ++ answers_text 1 (verdicts accepts entries begun.1 answers)
 signed_text accepts entries answers None = []
 
 -- whether all answers are accepted
-abbrev pub signed_status : Relation → List EntryData → List Answer → Option (List ℕ × Chain) → Status
+abbrev pub signed_status : Relation → List EntryData → List Answer → Option (List ℕ × TsigChain) → Status
 signed_status accepts entries answers (Some begun) =
     if list_all is_ok (verdicts accepts entries begun.1 answers) then Accepted else Refused
 signed_status accepts entries answers None = ScriptFault
 
 -- The request of a script, signed, and the chain that it begins. There is one, since a request line that can't be signed
 -- is faulty.
-unfoldable pub signed : Script → Option (List ℕ × Chain)
+unfoldable pub signed : Script → Option (List ℕ × TsigChain)
 signed script = signed_request script.signer script.request.time script.request.octets
 
 abbrev pub script_text : Relation → Result Script ScriptError → List ℕ

@@ -1,7 +1,7 @@
 -- Where records stand, written to a room one behind the other.
 use Rattle.std.proofs.Common.{◌≡◌, ℕ, zero, suc, ◌≤◌, ◌<◌, List, [], ◌∷◌, ◌++◌, length, map, take, drop, refl, ap, arith}
 use Rattle.std.specs.Prelude.{slice_set}
-use Rattle.dns_places.specs.declared.record_place.RecordPlace.{RecordPlace}
+use Rattle.message_walk.specs.declared.record_place.RecordPlace.{RecordPlace}
 use Rattle.dns_c.specs.declared.records.PspRecord.{PspRecord}
 use Rattle.dns_c.specs.MessageRecords.{record_for}
 

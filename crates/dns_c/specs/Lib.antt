@@ -1,5 +1,5 @@
 pub mod Arguments
 pub mod KeysAndNames
-pub mod Told
+pub mod Answered
 pub mod MessageRecords
 pub mod Transactions

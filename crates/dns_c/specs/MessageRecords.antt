@@ -5,13 +5,13 @@ use Rattle.dns_wire.specs.declared.error.DecodeError.{DecodeError}
 use Rattle.dns_wire.specs.Reading.{◌>>=◌}
 use Rattle.dns_message.specs.declared.section.Section.{Section}
 use Rattle.dns_message.specs.declared.section.Section.TheVariants as sections
-use Rattle.dns_places.specs.declared.data_error.DataError.{DataError}
-use Rattle.dns_places.specs.declared.data_error.DataError.TheVariants as faults
-use Rattle.dns_places.specs.declared.record_place.RecordPlace.{RecordPlace}
-use Rattle.dns_places.specs.Places.{data_at, places_at}
-use Rattle.sec_places.specs.declared.input_error.InputError.{InputError}
-use Rattle.sec_places.specs.declared.input_error.InputError.TheVariants as inputs
-use Rattle.sec_places.specs.SignedSets.{signed_input}
+use Rattle.message_walk.specs.declared.data_error.DataError.{DataError}
+use Rattle.message_walk.specs.declared.data_error.DataError.TheVariants as faults
+use Rattle.message_walk.specs.declared.record_place.RecordPlace.{RecordPlace}
+use Rattle.message_walk.specs.Places.{data_at, places_at}
+use Rattle.rrsig_input.specs.declared.input_error.InputError.{InputError}
+use Rattle.rrsig_input.specs.declared.input_error.InputError.TheVariants as inputs
+use Rattle.rrsig_input.specs.SignedSets.{signed_input}
 use Rattle.dns_c.specs.declared.records.PspRecord.{PspRecord}
 use Rattle.dns_c.specs.declared.status.Status.{Status}
 use Rattle.dns_c.specs.declared.status.Status.TheVariants as status

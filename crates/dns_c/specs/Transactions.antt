@@ -14,15 +14,15 @@ use Rattle.sec_tsig.specs.declared.verify_error.VerifyError.{VerifyError}
 use Rattle.sec_tsig.specs.declared.verify_error.VerifyError.TheVariants as causes
 use Rattle.sec_tsig.specs.Requests.{signed_or_cause}
 use Rattle.sec_tsig.specs.Signers.{Signer}
-use Rattle.sec_tsig.specs.Told.{Told, told_by}
-use Rattle.sec_tsig.specs.Verdict.{Chain, first_chain, verdict}
+use Rattle.sec_tsig.specs.Notices.{TsigNotice, notice_by}
+use Rattle.sec_tsig.specs.Verdict.{TsigChain, first_chain, verdict}
 use Rattle.dns_c.specs.declared.transaction.PspAnswer.{PspAnswer}
 use Rattle.dns_c.specs.declared.transaction.PspChain.{PspChain}
 use Rattle.dns_c.specs.declared.transaction.PspTsig.{PspTsig}
 use Rattle.dns_c.specs.declared.status.Status.{Status}
 use Rattle.dns_c.specs.declared.status.Status.TheVariants as status
 use Rattle.dns_c.specs.Arguments.{hash_of_number, wire_name}
-use Rattle.dns_c.specs.Told.{number_of}
+use Rattle.dns_c.specs.Answered.{number_of}
 
 -- who signs, by what a caller hands in
 abbrev pub signer_from : ℕ → List ℕ → List ℕ → ℕ → Result Signer Status
@@ -38,7 +38,7 @@ abbrev pub kept_mac : List ℕ → List ℕ
 kept_mac mac = mac ++ replicate (64 - length mac) 0
 
 -- a chain as the caller keeps it
-abbrev pub chain_for : Chain → PspChain
+abbrev pub chain_for : TsigChain → PspChain
 chain_for chain = record {
   request_time = chain.request_time;
   time = chain.time;
@@ -48,7 +48,7 @@ chain_for chain = record {
 }
 
 -- the chain that a caller keeps, for this signer
-abbrev pub chain_from : PspChain → Signer → Result Chain Status
+abbrev pub chain_from : PspChain → Signer → Result TsigChain Status
 chain_from kept signer =
     if nat_lt 64 kept.mac_len then Err status.BadChain
     else Ok (
@@ -75,7 +75,7 @@ or_request_status (Ok octets) = Ok octets
 or_request_status (Err cause) = Err (request_status cause)
 
 -- the signed request of these octets with the chain before the first answer
-abbrev pub signed_by : Result Signer Status → ℕ → List ℕ → Result (List ℕ × Chain) Status
+abbrev pub signed_by : Result Signer Status → ℕ → List ℕ → Result (List ℕ × TsigChain) Status
 signed_by signer time request = do
   who ← signer
   octets ← or_request_status (signed_or_cause who time request)
@@ -83,11 +83,11 @@ signed_by signer time request = do
 
 -- What a call tells that signs: the status, the room, the length and the chain behind it. The chain is told where the room
 -- is long enough, and else stays as it was.
-abbrev pub told_signed : Result (List ℕ × Chain) Status → List ℕ → ℕ → PspChain → ℕ × List ℕ × ℕ × PspChain
-told_signed (Ok signed) out out_len chain =
+abbrev pub answered_signed : Result (List ℕ × TsigChain) Status → List ℕ → ℕ → PspChain → ℕ × List ℕ × ℕ × PspChain
+answered_signed (Ok signed) out out_len chain =
     if nat_lt (length out) (length signed.0) then (number_of status.OutTooShort, out, length signed.0, chain)
     else (number_of status.Done, signed.0 ++ drop (length signed.0) out, length signed.0, chain_for signed.1)
-told_signed (Err refusal) out out_len chain = (number_of refusal, out, out_len, chain)
+answered_signed (Err refusal) out out_len chain = (number_of refusal, out, out_len, chain)
 
 -- ---- checking
 
@@ -102,12 +102,12 @@ verify_status causes.Outdated = status.Outdated
 verify_status causes.NotAResponse = status.NotAResponse
 verify_status causes.OutOfMemory = status.NotAMessage
 
-abbrev pub or_verify_status : Result Chain VerifyError → Result Chain Status
+abbrev pub or_verify_status : Result TsigChain VerifyError → Result TsigChain Status
 or_verify_status (Ok chain) = Ok chain
 or_verify_status (Err cause) = Err (verify_status cause)
 
 -- what is told to the caller of an answer
-abbrev pub answer_for : Told → PspAnswer
+abbrev pub answer_for : TsigNotice → PspAnswer
 answer_for told = record {
   server_time = unwrap_or told.server_time 0;
   tsig_error = told.tsig_error;
@@ -117,7 +117,7 @@ answer_for told = record {
 
 -- the same of octets by what reading them gives, which for an accepted answer is a message
 abbrev pub answer_read : Bool → Result (Message × ℕ) DecodeError → PspAnswer
-answer_read first (Ok read) = answer_for (told_by first read.0)
+answer_read first (Ok read) = answer_for (notice_by first read.0)
 answer_read first (Err _) = record { server_time = 0; tsig_error = 0; rcode = 0; has_time = 0 }
 
 -- the chain behind an accepted answer, and what that tells

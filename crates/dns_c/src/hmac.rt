@@ -3,7 +3,7 @@ ghost use Rattle.std.specs.Prelude.{◌≡◌};
 ghost use Rattle.dns_wire.specs.Reading.{Gives};
 ghost use Rattle.sec_digest.specs.Mac.{mac_octets};
 ghost use Rattle.dns_c.specs.KeysAndNames as specs;
-ghost use Rattle.dns_c.specs.Told.{told_list};
+ghost use Rattle.dns_c.specs.Answered.{answered_list};
 
 use crate::hash::hash_of_number;
 use crate::output::tell;
@@ -29,7 +29,7 @@ pub extern "C" fn psp_hmac(
     out_len: &mut usize,
 ) -> u32
     ensures { (result, out.new, out_len.new)
-        ≡ told_list (specs.mac_of_message hash key.now message.now) out.old out_len.old }
+        ≡ answered_list (specs.mac_of_message hash key.now message.now) out.old out_len.old }
 {
     match mac_of_message(hash, key, message) {
         Ok(mac) => tell(mac.as_slice(), out, out_len),

@@ -4,7 +4,7 @@ ghost use Rattle.dns_wire.specs.Reading.{Gives};
 ghost use Rattle.sec_digest.specs.Digests.{digest_octets};
 ghost use Rattle.dns_c.specs.Arguments.{held_data};
 ghost use Rattle.dns_c.specs.KeysAndNames.{tag_of_data, digest_of_data};
-ghost use Rattle.dns_c.specs.Told.{told, told_list};
+ghost use Rattle.dns_c.specs.Answered.{answered, answered_list};
 
 use crate::output::tell;
 use crate::status::Status;
@@ -53,7 +53,7 @@ fn digest_of_data(owner: &[u8], octets: &[u8], digest_type: u8) -> Result<Digest
 /// The tag of the DNSKEY with these data (RFC 4034 appendix B).
 #[unsafe(no_mangle)]
 pub extern "C" fn psp_key_tag(octets: &[u8], tag: &mut u16) -> u32
-    ensures { (result, tag.new) ≡ told (tag_of_data octets.now) tag.old }
+    ensures { (result, tag.new) ≡ answered (tag_of_data octets.now) tag.old }
 {
     match tag_of_data(octets) {
         Ok(found) => {
@@ -74,7 +74,7 @@ pub extern "C" fn psp_ds_digest(
     out_len: &mut usize,
 ) -> u32
     ensures { (result, out.new, out_len.new)
-        ≡ told_list (digest_of_data owner.now octets.now digest_type) out.old out_len.old }
+        ≡ answered_list (digest_of_data owner.now octets.now digest_type) out.old out_len.old }
 {
     match digest_of_data(owner, octets, digest_type) {
         Ok(digest) => tell(digest.as_slice(), out, out_len),

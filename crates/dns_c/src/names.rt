@@ -4,7 +4,7 @@ ghost use Rattle.dns_wire.specs.Reading.{Gives};
 ghost use Rattle.dns_names.specs.Names.{wire};
 ghost use Rattle.sec_digest.specs.Digests.{digest_octets};
 ghost use Rattle.dns_c.specs.KeysAndNames as specs;
-ghost use Rattle.dns_c.specs.Told.{told_list};
+ghost use Rattle.dns_c.specs.Answered.{answered_list};
 
 use crate::output::tell;
 use crate::status::Status;
@@ -66,7 +66,7 @@ fn hash_of_name(octets: &[u8], salt: &[u8], iterations: u16) -> Result<Digest, S
 /// The wire form of the name that a text spells (RFC 1035 5.1).
 #[unsafe(no_mangle)]
 pub extern "C" fn psp_name_from_text(text: &[u8], out: &mut [u8], out_len: &mut usize) -> u32
-    ensures { (result, out.new, out_len.new) ≡ told_list (specs.wire_of_text text.now) out.old out_len.old }
+    ensures { (result, out.new, out_len.new) ≡ answered_list (specs.wire_of_text text.now) out.old out_len.old }
 {
     match name_of_text(text) {
         Ok(name) => tell(name.as_wire(), out, out_len),
@@ -77,7 +77,7 @@ pub extern "C" fn psp_name_from_text(text: &[u8], out: &mut [u8], out_len: &mut 
 /// The text of a name in wire form (RFC 1035 5.1), with a dot at the end.
 #[unsafe(no_mangle)]
 pub extern "C" fn psp_name_to_text(name: &[u8], out: &mut [u8], out_len: &mut usize) -> u32
-    ensures { (result, out.new, out_len.new) ≡ told_list (specs.text_of_wire name.now) out.old out_len.old }
+    ensures { (result, out.new, out_len.new) ≡ answered_list (specs.text_of_wire name.now) out.old out_len.old }
 {
     match text_of_wire(name) {
         Ok(text) => tell(text.as_slice(), out, out_len),
@@ -95,7 +95,7 @@ pub extern "C" fn psp_nsec3_hash(
     out_len: &mut usize,
 ) -> u32
     ensures { (result, out.new, out_len.new)
-        ≡ told_list (specs.hash_of_name name.now salt.now iterations) out.old out_len.old }
+        ≡ answered_list (specs.hash_of_name name.now salt.now iterations) out.old out_len.old }
 {
     match hash_of_name(name, salt, iterations) {
         Ok(hash) => tell(hash.as_slice(), out, out_len),

@@ -1,17 +1,17 @@
 //! The records of messages, and what their signatures cover.
 ghost use Rattle.std.specs.Prelude.{◌≡◌, ◌+◌, ◌≤◌, ◌<◌, ◌^◌, ◌++◌, drop, length, map};
-ghost use Rattle.sec_places.specs.Rooms.{FillsRoom};
+ghost use Rattle.rrsig_input.specs.Rooms.{FillsRoom};
 ghost use Rattle.dns_c.specs.MessageRecords.{data_of_record, data_status, input_of_rrsig, input_status, record_for};
 ghost use Rattle.dns_c.specs.MessageRecords.{records_of, section_number, section_of_number};
-ghost use Rattle.dns_c.specs.Told.{told_list};
+ghost use Rattle.dns_c.specs.Answered.{answered_list};
 
 use crate::output::tell;
 use crate::status::Status;
 use crate::wire_name::name_of_wire;
 use dns_message::Section;
-use dns_places::{DataBuffer, DataError, RecordPlace, RecordWalk, canonical_data, empty_table};
 use dns_types::DNSClass;
-use sec_places::{InputError, signed_input};
+use message_walk::{DataBuffer, DataError, RecordPlace, RecordWalk, canonical_data, empty_cache};
+use rrsig_input::{InputError, signed_input};
 
 /// Where a record of a message stands.
 #[repr(C)]
@@ -93,9 +93,9 @@ fn put_places(mut walk: RecordWalk<'_>, out: &mut [PspRecord])
     requires room { length walk.left ≤ length out.old }
     ensures { out.new ≡ map record_for walk.entry.left ++ drop (length walk.entry.left) out.old }
 {
-    let mut jumps = empty_table();
+    let mut cache = empty_cache();
     let mut count = 0;
-    'records: while let Some(place) = walk.next(&mut jumps) {
+    'records: while let Some(place) = walk.next(&mut cache) {
         out[count] = PspRecord::of(&place);
         count += 1;
     }
@@ -104,7 +104,7 @@ fn put_places(mut walk: RecordWalk<'_>, out: &mut [PspRecord])
 /// Tells where the records of a message stand, in their order (RFC 1035 4.1).
 #[unsafe(no_mangle)]
 pub extern "C" fn psp_records(message: &[u8], out: &mut [PspRecord], out_len: &mut usize) -> u32
-    ensures { (result, out.new, out_len.new) ≡ told_list (records_of message.now) out.old out_len.old }
+    ensures { (result, out.new, out_len.new) ≡ answered_list (records_of message.now) out.old out_len.old }
 {
     let Ok(walk) = RecordWalk::new(message) else {
         return Status::NotAMessage.number();
@@ -125,11 +125,11 @@ pub extern "C" fn psp_canonical_data(
     out: &mut [u8],
     out_len: &mut usize,
 ) -> u32
-    ensures { (result, out.new, out_len.new) ≡ told_list (data_of_record message.now start) out.old out_len.old }
+    ensures { (result, out.new, out_len.new) ≡ answered_list (data_of_record message.now start) out.old out_len.old }
 {
-    let mut jumps = empty_table();
+    let mut cache = empty_cache();
     let mut held = DataBuffer::new();
-    match canonical_data(message, start, &mut jumps, &mut held) {
+    match canonical_data(message, start, &mut cache, &mut held) {
         Ok(()) => tell(held.as_slice(), out, out_len),
         Err(cause) => data_status(cause).number(),
     }
@@ -174,7 +174,7 @@ pub extern "C" fn psp_rrsig_input(
     out_len: &mut usize,
 ) -> u32
     ensures { (result, out.new, out_len.new)
-        ≡ told_list (input_of_rrsig message.now section owner.now dns_class start) out.old out_len.old }
+        ≡ answered_list (input_of_rrsig message.now section owner.now dns_class start) out.old out_len.old }
 {
     match put_input(message, section, owner, dns_class, start, out) {
         Ok(length) => {

@@ -1,6 +1,6 @@
 //! What a call answers.
 ghost use Rattle.std.specs.Prelude.{◌≡◌};
-ghost use Rattle.dns_c.specs.Told.{number_of};
+ghost use Rattle.dns_c.specs.Answered.{number_of};
 
 /// What a call answers: that it is done, or why it is refused. C is told its number.
 #[derive(Clone, Copy, Debug, PartialEq, Eq)]

@@ -1,12 +1,12 @@
 //! What stands of transaction signatures in the caller's memory.
 ghost use Rattle.std.specs.Prelude.{◌≡◌, ◌≤◌, ◌<◌, ◌^◌, length};
 ghost use Rattle.dns_message.specs.Views.{tsig_view, TsigViewFits};
-ghost use Rattle.sec_tsig.specs.Told.{step_told};
+ghost use Rattle.sec_tsig.specs.Notices.{step_notice};
 ghost use Rattle.dns_c.specs.Transactions.{answer_for, chain_for, hash_number, kept_mac, tsig_for};
 
 use dns_message::TsigView;
 use sec_digest::HmacHash;
-use sec_tsig::ChainStep;
+use sec_tsig::TsigStep;
 
 /// How many octets the longest MAC has.
 const MAC_ROOM: usize = 64;
@@ -105,8 +105,8 @@ fn number_of_hash(hash: Option<HmacHash>) -> u32
 
 impl PspAnswer {
     /// What the step of an accepted answer tells.
-    pub(crate) fn of(step: &ChainStep) -> PspAnswer
-        ensures { result ≡ answer_for (step_told step.now) }
+    pub(crate) fn of(step: &TsigStep) -> PspAnswer
+        ensures { result ≡ answer_for (step_notice step.now) }
     {
         let server_time = step.server_time();
         PspAnswer {

@@ -1,7 +1,7 @@
 //! Transaction signatures (RFC 8945).
 ghost use Rattle.std.specs.Prelude.{◌≡◌, length, Ok, Err};
-ghost use Rattle.dns_c.specs.Told.{number_of, told};
-ghost use Rattle.dns_c.specs.Transactions.{checked_by, request_status, signed_by, signer_from, told_signed, tsig_of};
+ghost use Rattle.dns_c.specs.Answered.{number_of, answered};
+ghost use Rattle.dns_c.specs.Transactions.{checked_by, request_status, signed_by, signer_from, answered_signed, tsig_of};
 ghost use Rattle.dns_c.specs.Transactions.{verify_status};
 
 use crate::hash::hash_of_number;
@@ -48,7 +48,7 @@ fn sign(
     chain: &mut PspChain,
 ) -> u32
     ensures { (result, out.new, out_len.new, chain.new)
-        ≡ told_signed (signed_by (Ok signer.now) time request.now) out.old out_len.old chain.old }
+        ≡ answered_signed (signed_by (Ok signer.now) time request.now) out.old out_len.old chain.old }
 {
     match signer.sign_request_to(request, time, out) {
         Err(cause) => request_status(cause).number(),
@@ -78,7 +78,7 @@ pub extern "C" fn psp_tsig_sign(
     chain: &mut PspChain,
 ) -> u32
     ensures { (result, out.new, out_len.new, chain.new)
-        ≡ told_signed (signed_by (signer_from hash key.now name.now fudge) time request.now)
+        ≡ answered_signed (signed_by (signer_from hash key.now name.now fudge) time request.now)
         out.old out_len.old chain.old }
 {
     let hash = match hash_of_number(hash) {
@@ -101,7 +101,7 @@ fn check(
     answer: &mut PspAnswer,
 ) -> u32
     ensures { (result, (chain.new, answer.new))
-        ≡ told (checked_by (Ok signer.entry) chain.old message.now) (chain.old, answer.old) }
+        ≡ answered (checked_by (Ok signer.entry) chain.old message.now) (chain.old, answer.old) }
 {
     if chain.mac_len > 64 {
         return Status::BadChain.number();
@@ -136,7 +136,7 @@ pub extern "C" fn psp_tsig_check(
     answer: &mut PspAnswer,
 ) -> u32
     ensures { (result, (chain.new, answer.new))
-        ≡ told (checked_by (signer_from hash key.now name.now 0) chain.old message.now) (chain.old, answer.old) }
+        ≡ answered (checked_by (signer_from hash key.now name.now 0) chain.old message.now) (chain.old, answer.old) }
 {
     let hash = match hash_of_number(hash) {
         Ok(hash) => hash,
@@ -157,7 +157,7 @@ pub extern "C" fn psp_tsig_check(
 /// Tells what the transaction signature of a message says, unchecked.
 #[unsafe(no_mangle)]
 pub extern "C" fn psp_tsig_read(message: &[u8], tsig: &mut PspTsig) -> u32
-    ensures { (result, tsig.new) ≡ told (tsig_of message.now) tsig.old }
+    ensures { (result, tsig.new) ≡ answered (tsig_of message.now) tsig.old }
 {
     let Ok(view) = MessageView::parse(message) else {
         return Status::NotAMessage.number();

@@ -6,7 +6,8 @@ use Rattle.std.specs.List.{AllByRecursion}
 use Rattle.std.specs.Result.{result_unwrap_or}
 use Rattle.dns_wire.specs.declared.encoder.NameEncoding.TheVariants.{Uncompressed}
 use Rattle.dns_wire.specs.declared.error.EmitError.{EmitError}
-use Rattle.dns_grammar.specs.Fields.{Field, each_octets, joined}
+use Rattle.dns_wire.specs.Joining.{each_octets, joined}
+use Rattle.dns_grammar.specs.Fields.{Field}
 use Rattle.dns_grammar.specs.RecordData.{rdata_octets}
 use Rattle.dns_grammar.specs.Messages.{ResourceRecord}
 use Rattle.dns_grammar.specs.MessageWriting.{header_octets, message_octets, query_octets, record_octets}
@@ -18,7 +19,8 @@ use Rattle.dns_message.specs.declared.message.Message.{Message}
 use Rattle.dns_message.specs.declared.query.Query.{Query as HeldQuery}
 use Rattle.dns_message.specs.declared.record.Record.{Record}
 use Rattle.dns_message.specs.MessageWriting as own
-use Rattle.dns_message.specs.MessageWriting.{option_octets, written_message, written_record, written_tsig_record}
+use Rattle.dns_wire.specs.Joining.{option_octets}
+use Rattle.dns_message.specs.MessageWriting.{written_message, written_record, written_tsig_record}
 use Rattle.dns_message.specs.Parts.{Parts, record_view, tsig_record_view, whole}
 use Rattle.dns_message.specs.Views.{query_view}
 use Rattle.sec_tsig.proofs.WrittenMessages.{written_long}

@@ -161,8 +161,8 @@ abbrev pub with_mac_turned_if : Bool → TsigRecord → TsigRecord
 with_mac_turned_if turn rr = record rr { tsig = record rr.tsig { mac = turned_if turn rr.tsig.mac } }
 
 -- a message with a TSIG record behind it
-unfoldable pub with_tsig : List ℕ → TsigRecord → List ℕ
-with_tsig octets rr = result_unwrap_or (with_record octets rr) []
+unfoldable pub followed_by_tsig : List ℕ → TsigRecord → List ℕ
+followed_by_tsig octets rr = result_unwrap_or (with_record octets rr) []
 
 -- the TSIG record of answer k
 abbrev pub record_of : List ℕ → ℕ → TsigRecord
@@ -170,7 +170,7 @@ record_of mac k = answer_record demo_signer mac (k == 1) (unsigned_answer k)
 
 -- the answer; where k mod 4 is 0 its MAC is a wrong one
 unfoldable pub answer : List ℕ → ℕ → List ℕ
-answer mac k = with_tsig (unsigned_answer k) (with_mac_turned_if (k % 4 == 0) (record_of mac k))
+answer mac k = followed_by_tsig (unsigned_answer k) (with_mac_turned_if (k % 4 == 0) (record_of mac k))
 
 -- the MAC that the next answer is behind: that of this answer, unless it is a wrong one
 unfoldable pub mac_behind : List ℕ → ℕ → List ℕ

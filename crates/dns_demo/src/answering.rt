@@ -2,7 +2,7 @@
 ghost use Rattle.std.specs.Prelude.{◌≡◌, ◌≤◌, length, map, IfOk, if◌then◌else◌};
 ghost use Rattle.sec_tsig.specs.Tsig.{tsig_record};
 ghost use Rattle.dns_demo.specs.Demo.{answer, answers_from, demo_answers, demo_signer, mac_behind, request_mac};
-ghost use Rattle.dns_demo.specs.Demo.{unsigned_answer, with_tsig};
+ghost use Rattle.dns_demo.specs.Demo.{unsigned_answer, followed_by_tsig};
 
 use crate::messages::message;
 use crate::parts::{TIME, request, signer};
@@ -25,10 +25,10 @@ fn unsigned_answer(alloc: Global, number: u16) -> Result<Vec<u8>, OutOfMemory>
 }
 
 /// An answer with a TSIG record behind it.
-#[tactic(auto, unfolding(crate::specs::Demo::with_tsig))]
-fn with_tsig(mut octets: Vec<u8>, rr: &Record<TSIG>) -> Result<Vec<u8>, OutOfMemory>
+#[tactic(auto, unfolding(crate::specs::Demo::followed_by_tsig))]
+fn followed_by_tsig(mut octets: Vec<u8>, rr: &Record<TSIG>) -> Result<Vec<u8>, OutOfMemory>
     requires { 12 ≤ length octets.items }
-    ensures { IfOk result (λ found. found.items ≡ with_tsig octets.items (tsig_record rr.now)) }
+    ensures { IfOk result (λ found. found.items ≡ followed_by_tsig octets.items (tsig_record rr.now)) }
 {
     match append_tsig(&mut octets, rr) {
         Ok(()) => Ok(octets),
@@ -70,7 +70,7 @@ fn answer(
     )?;
     let is_wrong = number % 4 == 0;
     let behind = mac_behind(is_wrong, mac, &rr)?;
-    let answer = with_tsig(octets, &turn_mac_if(is_wrong, rr))?;
+    let answer = followed_by_tsig(octets, &turn_mac_if(is_wrong, rr))?;
     Ok((answer, behind))
 }
 

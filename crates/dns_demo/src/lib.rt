@@ -3,11 +3,11 @@
 #![tactic(auto)]
 
 mod answering;
+mod flipping;
 mod messages;
 mod parts;
 mod records;
 mod signing;
-mod turning;
 
 pub use answering::answers;
 pub use parts::{MOMENT, TIME, entries, request, signer};

@@ -7,8 +7,8 @@ ghost use Rattle.dns_message.specs.Parts.{record_view};
 ghost use Rattle.dns_demo.specs.Demo.{address, owner, records_under, rrsig, signature, signature_fields, signed_set};
 ghost use Rattle.dns_demo.specs.Demo.{zone_key, IsOfTable};
 
+use crate::flipping::flip_last_bit_if;
 use crate::messages::{label, name, zone};
-use crate::turning::turn_if;
 use dns_message::Record;
 use dns_names::Name;
 use dns_rdata::{DNSSECRData, RData};
@@ -100,7 +100,7 @@ fn signature(
 {
     let tbs = signed_set(alloc, input, owner, records)?;
     let mut octets = keyed_hash(alloc, &tbs)?;
-    turn_if(number % 4 == 2, &mut octets);
+    flip_last_bit_if(number % 4 == 2, &mut octets);
     Ok(octets)
 }
 

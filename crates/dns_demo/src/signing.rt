@@ -3,8 +3,8 @@ ghost use Rattle.std.specs.Prelude.{◌≡◌, true, false, IfOk};
 ghost use Rattle.sec_tsig.specs.Tsig.{tsig_record};
 ghost use Rattle.dns_demo.specs.Demo.{answer_record, with_mac_turned_if};
 
+use crate::flipping::flip_last_bit_if;
 use crate::parts::{ID, TIME};
-use crate::turning::turn_if;
 use dns_message::Record;
 use dns_wire::OutOfMemory;
 use sec_sigdata::TSIG;
@@ -61,6 +61,6 @@ pub(crate) fn answer_record(
 pub(crate) fn turn_mac_if(turned: bool, mut rr: Record<TSIG>) -> Record<TSIG>
     ensures { tsig_record result ≡ with_mac_turned_if turned (tsig_record rr) }
 {
-    turn_if(turned, &mut rr.rdata.mac);
+    flip_last_bit_if(turned, &mut rr.rdata.mac);
     rr
 }

@@ -1,12 +1,13 @@
 -- Canonical form writes what it shows.
 use Rattle.std.proofs.Common.{◌≡◌, ℕ, true, false, List, [], ◌∷◌, Some, None, refl, sym, ap, ◌∙◌}
-use Rattle.dns_grammar.specs.Fields.{Kind, Lowered, Value, Named, Field, Table, row_of, joined, value_octets}
+use Rattle.dns_wire.specs.Joining.{joined}
+use Rattle.dns_grammar.specs.Fields.{Kind, LoweredName, Value, Named, Field, Table, row_of, value_octets}
 use Rattle.dns_grammar.specs.Fields.{fields_octets, SameValue, SameValues}
 use Rattle.dns_grammar.specs.RecordData.{fitting}
 use Rattle.dns_grammar.specs.Laws.{shown_value, shown_values, CanonicalIsPlain, AgreeingHaveOneForm}
 
 value_canonical : (kind : Kind) (v : Value) → value_octets true kind v ≡ value_octets false kind (shown_value kind v)
-value_canonical Lowered (Named n) = refl
+value_canonical LoweredName (Named n) = refl
 value_canonical _ _ = refl
 
 pub fields_canonical : (fields : List Field) → CanonicalIsPlain fields
@@ -16,7 +17,7 @@ fields_canonical (f ∷ fs) (v ∷ vs) = λ i. joined (value_canonical f.kind v 
 
 -- the same value to canonical form
 same_shown : (kind : Kind) (v w : Value) → SameValue kind v w → shown_value kind v ≡ shown_value kind w
-same_shown Lowered (Named n) (Named z) same = ap (λ (y : List (List ℕ)). Named y) same
+same_shown LoweredName (Named n) (Named z) same = ap (λ (y : List (List ℕ)). Named y) same
 same_shown kind v w same = ap (shown_value kind) same
 
 values_shown : (fields : List Field) (vs ws : List Value) → SameValues fields vs ws

@@ -11,8 +11,8 @@ use Rattle.dns_wire.proofs.FieldLaws.{counted_stands}
 use Rattle.std.proofs.lemmas.Bool.Decides.{leb_tells}
 use Rattle.std.specs.Int.{w8}
 use Rattle.dns_names.specs.Skipping.{without_value}
-use Rattle.dns_grammar.specs.declared.check.FieldForm.{FieldForm}
-use Rattle.dns_grammar.specs.FieldForms.{form_field, form_fields}
+use Rattle.dns_grammar.specs.declared.check.FieldKind.{FieldKind}
+use Rattle.dns_grammar.specs.FieldKinds.{kind_field, kind_fields}
 
 -- ---- strings
 
@@ -111,18 +111,18 @@ fields_split field fields m p e = go (value_at field.kind m p e)
     go (Ok value) = tested value (no_fault (field.fault value.0))
 
 -- the fields from i on, split at the first
-pub fields_next : {T : Type 0} (tested : T → Field) (forms : List (FieldForm T)) (i : ℕ) (form : FieldForm T)
+pub fields_next : {T : Type 0} (tested : T → Field) (forms : List (FieldKind T)) (i : ℕ) (form : FieldKind T)
     (m : List ℕ) (p e : ℕ)
     → i < length forms → form ≡ get_or forms i form
-    → without_value (fields_at (form_fields tested (drop i forms)) m p e)
-    ≡ (without_value (fields_at (form_field tested form ∷ []) m p e)
-    >>= λ x. without_value (fields_at (form_fields tested (drop (i + 1) forms)) m x.1 e))
+    → without_value (fields_at (kind_fields tested (drop i forms)) m p e)
+    ≡ (without_value (fields_at (kind_field tested form ∷ []) m p e)
+    >>= λ x. without_value (fields_at (kind_fields tested (drop (i + 1) forms)) m x.1 e))
 fields_next tested forms i form m p e lt is =
     let split : drop i forms ≡ get_or forms i form ∷ drop (i + 1) forms = rw (add-one, drop-cons forms i form) refl in
-    ap (λ l. without_value (fields_at (form_fields tested l) m p e)) (split ∙ ap (λ f. f ∷ drop (i + 1) forms) (sym is))
-    ∙ fields_split (form_field tested form) (form_fields tested (drop (i + 1) forms)) m p e
+    ap (λ l. without_value (fields_at (kind_fields tested l) m p e)) (split ∙ ap (λ f. f ∷ drop (i + 1) forms) (sym is))
+    ∙ fields_split (kind_field tested form) (kind_fields tested (drop (i + 1) forms)) m p e
 
-pub fields_stop : {T : Type 0} (tested : T → Field) (forms : List (FieldForm T)) (i : ℕ) (m : List ℕ) (p e : ℕ)
-    → length forms ≤ i → without_value (fields_at (form_fields tested (drop i forms)) m p e) ≡ Ok (tt, p)
-fields_stop tested forms i m p e le = ap (λ l. without_value (fields_at (form_fields tested l) m p e))
+pub fields_stop : {T : Type 0} (tested : T → Field) (forms : List (FieldKind T)) (i : ℕ) (m : List ℕ) (p e : ℕ)
+    → length forms ≤ i → without_value (fields_at (kind_fields tested (drop i forms)) m p e) ≡ Ok (tt, p)
+fields_stop tested forms i m p e le = ap (λ l. without_value (fields_at (kind_fields tested l) m p e))
     (drop_all i forms le)

@@ -9,7 +9,7 @@ use Rattle.dns_wire.specs.declared.error.DecodeError.{DecodeError}
 use Rattle.dns_wire.specs.Reading.{◌>>=◌, octets_at, number_at, time_at, counted_at, CountedAt}
 use Rattle.dns_names.specs.Places.{name_at}
 use Rattle.dns_names.proofs.PlaceLaws.{name_at_sound, name_at_complete}
-use Rattle.dns_grammar.specs.Fields.{width, Kind, Number, Time, Fixed, Counted, Strings, Rest, Lowered, Kept, Value}
+use Rattle.dns_grammar.specs.Fields.{width, Kind, Number, Time, Fixed, Counted, Strings, Rest, LoweredName, KeptName, Value}
 use Rattle.dns_grammar.specs.Fields.{Num, Str, Strs, Named, Field, StringsAt, ValueAt, FieldsAt, strings_at, value_at}
 use Rattle.dns_grammar.specs.Fields.{no_fault, fields_at}
 use Rattle.dns_wire.proofs.FieldLaws.{is_ok_same, bind_ok, octets_stand, octets_read, number_stands, number_read}
@@ -109,10 +109,10 @@ value_stands Strings m p e v q within h = let b = made_ok (strings_at (e - p) m 
 value_stands Rest m p e v q within h =
     let same = is_ok_same (Str (slice_range m p e), e) (v, q) h in
     subst (λ (y : Value × ℕ). ValueAt Rest m p e y.0 y.1) same (refl, refl)
-value_stands Lowered m p e v q within h = let b = made_ok (name_at m p e) (λ n. Named n) v q h in subst
-    (λ z. ValueAt Lowered m p e z q) b.2 (name_at_sound m p e b.0 q within b.1)
-value_stands Kept m p e v q within h = let b = made_ok (name_at m p e) (λ n. Named n) v q h in subst
-    (λ z. ValueAt Kept m p e z q) b.2 (name_at_sound m p e b.0 q within b.1)
+value_stands LoweredName m p e v q within h = let b = made_ok (name_at m p e) (λ n. Named n) v q h in subst
+    (λ z. ValueAt LoweredName m p e z q) b.2 (name_at_sound m p e b.0 q within b.1)
+value_stands KeptName m p e v q within h = let b = made_ok (name_at m p e) (λ n. Named n) v q h in subst
+    (λ z. ValueAt KeptName m p e z q) b.2 (name_at_sound m p e b.0 q within b.1)
 
 value_read : (k : Kind) (m : List ℕ) (p e : ℕ) (v : Value) (q : ℕ) → ValueAt k m p e v q → value_at k m p e ≡ Ok (v, q)
 value_read (Number size) m p e (Num n) q s = rw (number_read (width size) m p e n q s) refl
@@ -121,8 +121,8 @@ value_read (Fixed n) m p e (Str x) q s = rw (octets_read n m p e x q s) refl
 value_read (Counted size cause) m p e (Str x) q s = rw (counted_read (width size) m p e x q s) refl
 value_read Strings m p e (Strs x) q s = rw (strings_read (e - p) m p e x q (omega arith) s) refl
 value_read Rest m p e (Str x) q s = rw (s.0, s.1) refl
-value_read Lowered m p e (Named n) q s = rw (name_at_complete m p e n q s) refl
-value_read Kept m p e (Named n) q s = rw (name_at_complete m p e n q s) refl
+value_read LoweredName m p e (Named n) q s = rw (name_at_complete m p e n q s) refl
+value_read KeptName m p e (Named n) q s = rw (name_at_complete m p e n q s) refl
 value_read _ m p e _ q s = absurd s
 
 -- ---- fields one behind the other

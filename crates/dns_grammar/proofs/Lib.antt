@@ -7,7 +7,6 @@ pub mod MessageLaws
 pub mod OutlineLaws
 pub mod TsigLaws
 pub mod CanonicalLaws
-pub mod FieldOutLaws
 pub mod ReadBack
 pub mod ReadAgain
 pub mod ExtentLaws

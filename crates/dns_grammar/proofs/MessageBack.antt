@@ -12,14 +12,15 @@ use Rattle.dns_wire.specs.declared.encoder.NameEncoding.TheVariants.{Uncompresse
 use Rattle.dns_wire.specs.Octets.{two_octets}
 use Rattle.dns_wire.specs.Reading.{◌>>=◌, each_at}
 use Rattle.dns_names.specs.Names.{wire}
-use Rattle.dns_grammar.specs.Fields.{Two, Table, joined, each_octets}
+use Rattle.dns_wire.specs.Joining.{joined, each_octets}
+use Rattle.dns_grammar.specs.Fields.{Two, Table}
 use Rattle.dns_grammar.specs.Messages.{Header, Query, ResourceRecord, Message, records, before_last, NotTsig, IsCounted}
 use Rattle.dns_grammar.specs.Messages.{header_at, query_at, record_at, queries_at, records_at, additionals_at, body_at}
 use Rattle.dns_grammar.specs.Messages.{message_at}
 use Rattle.dns_grammar.specs.MessageWriting.{count_octets, header_octets, query_octets, record_octets}
 use Rattle.dns_grammar.specs.Laws.{IsQuery, IsRecord, IsMessage, unplaced_record, unplaced, read_unplaced}
 use Rattle.dns_grammar.specs.Laws.{WrittenMessageIsRead}
-use Rattle.dns_grammar.proofs.FieldOutLaws.{joined_nil, joined_more}
+use Rattle.dns_wire.proofs.PutLaws.{joined_nil, joined_more}
 use Rattle.dns_grammar.proofs.ReadBack.{ok_octets, joins}
 use Rattle.dns_grammar.proofs.RecordBack.{GoesOn, behind, number_here, name_here, record_goes}
 use Rattle.dns_grammar.proofs.MessageLaws.{its_place, before_less}

@@ -13,7 +13,7 @@ use Rattle.dns_wire.specs.Octets.{AreOctets, six_octets}
 use Rattle.dns_names.specs.Names.{wire}
 use Rattle.dns_names.specs.NameLaws.{length_lt-wire}
 use Rattle.dns_grammar.specs.Fields.{Size, One, Two, Four, width, limit, Kind, Number, Time, Fixed, Counted, Strings}
-use Rattle.dns_grammar.specs.Fields.{Rest, Lowered, Kept, Value, Num, Str, Strs, Named, Field, Table, row_of, StringsAt}
+use Rattle.dns_grammar.specs.Fields.{Rest, LoweredName, KeptName, Value, Num, Str, Strs, Named, Field, Table, row_of, StringsAt}
 use Rattle.dns_grammar.specs.Fields.{ValueAt, FieldsAt, counted_octets, strings_octets, value_octets, fields_octets}
 use Rattle.dns_grammar.specs.RecordData.{EmptyAt, one_type_data_at, rdata_at}
 use Rattle.dns_grammar.specs.Laws.{Holds, HoldsAll, rest_is_last, ReadIsReadAgain, WrittenRowIsRead, ReadRowIsReadAgain}
@@ -125,13 +125,13 @@ can_write (Counted size too_long) m p e (Str x) q octets s =
 can_write Strings m p e (Strs strings) q octets s = let w = strings_write m p e strings q octets s in
     record { holds = tt; octets = w.0; written = w.1 }
 can_write Rest m p e (Str x) q octets s = record { holds = tt; octets = x; written = refl }
-can_write Lowered m p e (Named n) q octets s = record {
+can_write LoweredName m p e (Named n) q octets s = record {
   holds = name_of_octets m p e n q octets s;
   octets = _;
   written =
       refl;
 }
-can_write Kept m p e (Named n) q octets s = record {
+can_write KeptName m p e (Named n) q octets s = record {
   holds = name_of_octets m p e n q octets s;
   octets = _;
   written =
@@ -203,9 +203,9 @@ value_some Rest m p e (Str z) q x within s is none =
       s.1,
       within,
     )
-value_some Lowered m p e (Named n) q x within s is none = absurd
+value_some LoweredName m p e (Named n) q x within s is none = absurd
     (omega (arith, ap length (ok_octets (wire n) x is), none, length_lt-wire n))
-value_some Kept m p e (Named n) q x within s is none = absurd
+value_some KeptName m p e (Named n) q x within s is none = absurd
     (omega (arith, ap length (ok_octets (wire n) x is), none, length_lt-wire n))
 value_some _ m p e _ q x within s is none = absurd s
 

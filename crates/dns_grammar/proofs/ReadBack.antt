@@ -15,8 +15,9 @@ use Rattle.dns_names.specs.Places.{name_at}
 use Rattle.dns_names.proofs.PlaceLaws.{name_at_complete}
 use Rattle.dns_names.proofs.Written.{written_name}
 use Rattle.dns_grammar.specs.Fields.{Size, One, Two, Four, width, limit, Kind, Number, Time, Fixed, Counted, Strings}
-use Rattle.dns_grammar.specs.Fields.{Rest, Lowered, Kept, Value, Num, Str, Strs, Named, Field, value_at, fields_at}
-use Rattle.dns_grammar.specs.Fields.{joined, counted_octets, strings_octets, strings_at, value_octets, fields_octets}
+use Rattle.dns_grammar.specs.Fields.{Rest, LoweredName, KeptName, Value, Num, Str, Strs, Named, Field, value_at, fields_at}
+use Rattle.dns_wire.specs.Joining.{joined}
+use Rattle.dns_grammar.specs.Fields.{counted_octets, strings_octets, strings_at, value_octets, fields_octets}
 use Rattle.dns_grammar.specs.RecordData.{fields_filling}
 use Rattle.dns_wire.specs.Octets.{six_octets}
 use Rattle.dns_grammar.specs.Laws.{Holds, HoldsAll, takes_rest, rest_is_last}
@@ -220,9 +221,9 @@ value_back (Counted size cause) (Str x) y rest holds is =
     let c = chose_octets (ltb (length x) (limit size)) (with_count size x) y cause is in
     subst (Back (Counted size cause) (Str x)) c.1 (λ front back e le inside. ap (wrap (λ z. Str z))
     (counted_back size x front back e (ltb-true _ _ c.0) le))
-value_back Lowered (Named n) y rest holds is = subst (Back Lowered (Named n)) (ok_octets _ y is)
+value_back LoweredName (Named n) y rest holds is = subst (Back LoweredName (Named n)) (ok_octets _ y is)
     (λ front back e le inside. ap (wrap (λ z. Named z)) (name_back n front back e holds le inside))
-value_back Kept (Named n) y rest holds is = subst (Back Kept (Named n)) (ok_octets _ y is)
+value_back KeptName (Named n) y rest holds is = subst (Back KeptName (Named n)) (ok_octets _ y is)
     (λ front back e le inside. ap (wrap (λ z. Named z)) (name_back n front back e holds le inside))
 value_back Rest v y rest holds is = absurd cc
 value_back Strings v y rest holds is = absurd cc

@@ -3,7 +3,7 @@ use Rattle.std.proofs.Common.{◌≡◌, ℕ, ◌+◌, true, eqb, List, [], ◌�
 use Rattle.std.proofs.Common.{subst, ◌∙◌, eq-eqb}
 use Rattle.dns_wire.specs.declared.error.EmitError.{EmitError}
 use Rattle.dns_wire.specs.declared.error.EmitError.TheVariants.{MacTooLong, OtherTooLong}
-use Rattle.dns_grammar.specs.Fields.{Size, Two, Number, Time, Counted, Kept, Value, Num, Str, Named, Table, row_of}
+use Rattle.dns_grammar.specs.Fields.{Size, Two, Number, Time, Counted, KeptName, Value, Num, Str, Named, Table, row_of}
 use Rattle.dns_grammar.specs.Fields.{ValueAt, FieldsAt}
 use Rattle.dns_grammar.specs.RecordData.{tsig_type, RDataAt}
 use Rattle.dns_grammar.specs.Tables.{IsTable, tsig_row}
@@ -11,7 +11,7 @@ use Rattle.dns_grammar.specs.Messages.{ResourceRecord, RecordAt, TsigData, tsig_
 use Rattle.dns_grammar.specs.Laws.{SignatureIsWhole}
 use Rattle.dns_grammar.proofs.EachLaws.{each_last}
 
-is_name : (m : List ℕ) (p e : ℕ) (v : Value) (q : ℕ) → ValueAt Kept m p e v q → (n : List (List ℕ)) × (v ≡ Named n)
+is_name : (m : List ℕ) (p e : ℕ) (v : Value) (q : ℕ) → ValueAt KeptName m p e v q → (n : List (List ℕ)) × (v ≡ Named n)
 is_name m p e (Named n) q s = (n, refl)
 is_name m p e _ q s = absurd s
 

@@ -7,6 +7,7 @@ use Rattle.std.specs.Int.{Width, w8, w16, w32, to_be_bytes}
 use Rattle.dns_wire.specs.declared.error.DecodeError.{DecodeError}
 use Rattle.dns_wire.specs.declared.error.EmitError.{EmitError}
 use Rattle.dns_wire.specs.declared.error.EmitError.TheVariants.{OutOfMemory, TimeTooLarge, StringTooLong}
+use Rattle.dns_wire.specs.Joining.{joined, each_octets}
 use Rattle.dns_wire.specs.Lookup.{lookup}
 use Rattle.dns_wire.specs.Octets.{six_octets}
 use Rattle.dns_names.specs.Names.{wire, low, Same}
@@ -48,9 +49,9 @@ pub data Kind : Type 0 where
   -- the octets that are left
   Rest : Kind
   -- a name whose letters are lowered in canonical form (RFC 4034 6.2)
-  Lowered : Kind
+  LoweredName : Kind
   -- a name that keeps its letters in canonical form
-  Kept : Kind
+  KeptName : Kind
 
 -- what a field holds
 pub data Value : Type 0 where
@@ -96,8 +97,8 @@ ValueAt (Fixed n) m p e (Str x) q = OctetsAt n m p e x q
 ValueAt (Counted size _) m p e (Str x) q = CountedAt (width size) m p e x q
 ValueAt Strings m p e (Strs strings) q = StringsAt m p e strings q
 ValueAt Rest m p e (Str x) q = (x ≡ slice_range m p e) × (q ≡ e)
-ValueAt Lowered m p e (Named n) q = NameAt m p e n q
-ValueAt Kept m p e (Named n) q = NameAt m p e n q
+ValueAt LoweredName m p e (Named n) q = NameAt m p e n q
+ValueAt KeptName m p e (Named n) q = NameAt m p e n q
 ValueAt _ m p e _ q = ⊥
 
 -- values that the fields allow stand one behind the other from p to q, where the data end at e
@@ -129,8 +130,8 @@ value_at (Fixed n) m p e = octets_at n m p e >>= λ x. Ok (Str x.0, x.1)
 value_at (Counted size _) m p e = counted_at (width size) m p e >>= λ x. Ok (Str x.0, x.1)
 value_at Strings m p e = strings_at (e - p) m p e >>= λ x. Ok (Strs x.0, x.1)
 value_at Rest m p e = Ok (Str (slice_range m p e), e)
-value_at Lowered m p e = name_at m p e >>= λ x. Ok (Named x.0, x.1)
-value_at Kept m p e = name_at m p e >>= λ x. Ok (Named x.0, x.1)
+value_at LoweredName m p e = name_at m p e >>= λ x. Ok (Named x.0, x.1)
+value_at KeptName m p e = name_at m p e >>= λ x. Ok (Named x.0, x.1)
 
 -- goes on where there is no fault
 abbrev pub no_fault : Option DecodeError → Result (Unit {0}) DecodeError
@@ -149,21 +150,10 @@ fields_at (field ∷ fields) m p e = do
 
 -- ---- how fields are written
 
--- octets and those behind them, or the first cause
-abbrev pub joined : Result (List ℕ) EmitError → Result (List ℕ) EmitError → Result (List ℕ) EmitError
-joined (Ok x) (Ok y) = Ok (x ++ y)
-joined (Ok x) (Err e) = Err e
-joined (Err e) y = Err e
-
 -- octets behind their count, or this cause where they are too many for it
 abbrev pub counted_octets : Size → EmitError → List ℕ → Result (List ℕ) EmitError
 counted_octets size too_long x =
     if nat_lt (length x) (limit size) then Ok (to_be_bytes (width size) (length x) ++ x) else Err too_long
-
--- the octets of each of these, one behind the other, or the first cause
-abbrev pub each_octets : {A : Type 0} → (A → Result (List ℕ) EmitError) → List A → Result (List ℕ) EmitError
-each_octets written [] = Ok []
-each_octets written (x ∷ xs) = joined (written x) (each_octets written xs)
 
 -- strings, each behind its count of one octet
 abbrev pub strings_octets : List (List ℕ) → Result (List ℕ) EmitError
@@ -186,8 +176,8 @@ value_octets canonical (Fixed n) (Str x) = Ok x
 value_octets canonical (Counted size too_long) (Str x) = counted_octets size too_long x
 value_octets canonical Strings (Strs strings) = strings_octets strings
 value_octets canonical Rest (Str x) = Ok x
-value_octets canonical Lowered (Named n) = Ok (wire (canonical_name canonical n))
-value_octets canonical Kept (Named n) = Ok (wire n)
+value_octets canonical LoweredName (Named n) = Ok (wire (canonical_name canonical n))
+value_octets canonical KeptName (Named n) = Ok (wire n)
 value_octets canonical _ _ = undefined
 
 -- the octets of values, one for each field, in canonical form or not, or the cause of the first that can't be written
@@ -201,7 +191,7 @@ fields_octets canonical _ _ = undefined
 
 -- equal, where a name that canonical form lowers need only be the same name
 abbrev pub SameValue : Kind → Value → Value → Type 0
-SameValue Lowered (Named n) (Named z) = Same n z
+SameValue LoweredName (Named n) (Named z) = Same n z
 SameValue _ v w = v ≡ w
 
 -- so place by place

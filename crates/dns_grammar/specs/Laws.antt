@@ -7,7 +7,7 @@ use Rattle.dns_wire.specs.declared.error.DecodeError.{DecodeError}
 use Rattle.dns_wire.specs.Octets.{AreOctets}
 use Rattle.dns_wire.specs.Reading.{◌>>=◌}
 use Rattle.dns_names.specs.Names.{IsName, low}
-use Rattle.dns_grammar.specs.Fields.{limit, Kind, Number, Time, Fixed, Counted, Strings, Rest, Lowered, Kept}
+use Rattle.dns_grammar.specs.Fields.{limit, Kind, Number, Time, Fixed, Counted, Strings, Rest, LoweredName, KeptName}
 use Rattle.dns_grammar.specs.Fields.{Value, Num, Str, Strs, Named, Field, Table, row_of, fields_octets}
 use Rattle.dns_grammar.specs.RecordData.{tsig_type, RowAt, RDataAt, fields_filling, one_type_data_at, rdata_at}
 use Rattle.dns_grammar.specs.RecordData.{plain, canon, Agree}
@@ -59,8 +59,8 @@ Holds (Fixed n) (Str x) = length x ≡ n
 Holds (Counted size too_long) (Str x) = Unit {0}
 Holds Strings (Strs strings) = Unit {0}
 Holds Rest (Str x) = Unit {0}
-Holds Lowered (Named n) = IsName n
-Holds Kept (Named n) = IsName n
+Holds LoweredName (Named n) = IsName n
+Holds KeptName (Named n) = IsName n
 Holds _ _ = ⊥
 
 -- values that the fields may hold and allow
@@ -194,7 +194,7 @@ WrittenMessageIsRead table = (message : Message) (x : List ℕ)
 
 -- a name that canonical form lowers, lowered
 abbrev pub shown_value : Kind → Value → Value
-shown_value Lowered (Named n) = Named (low n)
+shown_value LoweredName (Named n) = Named (low n)
 shown_value _ v = v
 
 abbrev pub shown_values : List Field → List Value → List Value

@@ -7,4 +7,4 @@ pub mod Extents
 pub mod FieldsOut
 pub mod Laws
 pub mod RowReaders
-pub mod FieldForms
+pub mod FieldKinds

@@ -7,7 +7,8 @@ use Rattle.dns_wire.specs.declared.error.EmitError.TheVariants.{CountTooLarge}
 use Rattle.dns_wire.specs.Octets.{two_octets, four_octets}
 use Rattle.dns_wire.specs.Reading.{◌>>=◌}
 use Rattle.dns_names.specs.NameWriting.{name_octets}
-use Rattle.dns_grammar.specs.Fields.{Table, row_of, joined, each_octets}
+use Rattle.dns_wire.specs.Joining.{joined, each_octets}
+use Rattle.dns_grammar.specs.Fields.{Table, row_of}
 use Rattle.dns_grammar.specs.RecordData.{rdata_octets, fitting}
 use Rattle.dns_grammar.specs.Messages.{Query, ResourceRecord, Message, records}
 

@@ -1,12 +1,12 @@
 //! Record data checked in their octets by the fields of their type, without memory.
 ghost use Rattle.std.specs.Prelude.{◌≡◌, ℕ, ◌+◌, ◌-◌, ◌≤◌, ◌<◌, List, [], ◌∷◌, length, IfOk, IsOk, OnOk};
 ghost use Rattle.dns_wire.specs.Reading.{octets, place, Gives, Reads};
-ghost use Rattle.dns_names.specs.Jumps.{AreJumps};
+ghost use Rattle.dns_names.specs.PointerCache.{IsPointerCache};
 ghost use Rattle.dns_grammar.specs.Fields.{Field, Table, Value, row_of, FieldsAt, fields_at, strings_at};
 ghost use Rattle.dns_grammar.specs.RecordData.{one_type_data_at, rdata_at};
 ghost use Rattle.dns_grammar.specs.RowReaders.{ChecksRow, ChecksData};
 ghost use Rattle.dns_names.specs.Skipping.{without_value};
-ghost use Rattle.dns_grammar.specs.FieldForms.{form_field, form_fields};
+ghost use Rattle.dns_grammar.specs.FieldKinds.{kind_field, kind_fields};
 
 use crate::span::{data_end, expect_end};
 use dns_names::Name;
@@ -34,24 +34,9 @@ pub trait TestedField {
         ensures inside { place decoder.new ≤ end };
 }
 
-/// No test: the octets that are left, whatever they are. It stands where a table has no field with a test.
-#[derive(Clone, Copy, Debug)]
-pub struct Untested;
-
-impl TestedField for Untested {
-    ghost use Rattle.dns_grammar.specs.Fields.{Rest, any};
-
-    ghost field = { λ _. any Rest };
-
-    fn skip(&self, decoder: &mut BinDecoder<'_>, end: usize) -> Result<(), DecodeError> {
-        decoder.set_index(end);
-        Ok(())
-    }
-}
-
 /// A field of record data (RFC 1035 3.3).
 #[derive(Clone, Copy, Debug)]
-pub enum FieldForm<T> {
+pub enum FieldKind<T> {
     /// A number in one octet.
     U8,
     /// A number in two octets.
@@ -71,9 +56,9 @@ pub enum FieldForm<T> {
     /// The rest.
     Octets,
     /// A name that canonical form lowers (RFC 4034 6.2).
-    Lowered,
+    LoweredName,
     /// A name that canonical form keeps.
-    Kept,
+    KeptName,
     /// A field whose values are tested.
     Tested(T),
 }
@@ -95,8 +80,8 @@ fn skip_strings<'a>(mut reader: BinDecoder<'a>, end: usize) -> Result<BinDecoder
     Ok(reader)
 }
 
-impl<T: TestedField> FieldForm<T> {
-    /// Skips the field, which ends at or before `end`, a name through known jumps.
+impl<T: TestedField> FieldKind<T> {
+    /// Skips the field, which ends at or before `end`, a name by a pointer cache.
     ///
     /// # Errors
     ///
@@ -106,45 +91,45 @@ impl<T: TestedField> FieldForm<T> {
         &self,
         decoder: &mut BinDecoder<'_>,
         end: usize,
-        jumps: &mut [u16],
+        cache: &mut [u16],
     ) -> Result<(), DecodeError>
         requires ahead { place decoder.old ≤ end }
         requires inside { end ≤ length (octets decoder.old) }
-        requires jumps { AreJumps (octets decoder.old) jumps.old }
+        requires cache { IsPointerCache (octets decoder.old) cache.old }
         ensures exact { Reads (λ x. x) result decoder.old decoder.new
-            (without_value (fields_at (form_field T.field self.now ∷ [])
+            (without_value (fields_at (kind_field T.field self.now ∷ [])
             (octets decoder.old) (place decoder.old) end)) }
         ensures inside { place decoder.new ≤ end }
-        ensures jumps { AreJumps (octets decoder.old) jumps.new }
+        ensures cache { IsPointerCache (octets decoder.old) cache.new }
     {
         match self {
-            FieldForm::U8 => {
+            FieldKind::U8 => {
                 decoder.read_u8_within(end)?;
             }
-            FieldForm::U16 => {
+            FieldKind::U16 => {
                 decoder.read_u16_within(end)?;
             }
-            FieldForm::U32 => {
+            FieldKind::U32 => {
                 decoder.read_u32_within(end)?;
             }
-            FieldForm::Time => {
+            FieldKind::Time => {
                 decoder.read_time_within(end)?;
             }
-            FieldForm::Fixed(n) => {
+            FieldKind::Fixed(n) => {
                 decoder.read_slice_within(*n, end)?;
             }
-            FieldForm::Counted8(_) => {
+            FieldKind::Counted8(_) => {
                 decoder.read_counted8_within(end)?;
             }
-            FieldForm::Counted16(_) => {
+            FieldKind::Counted16(_) => {
                 decoder.read_counted16_within(end)?;
             }
-            FieldForm::Strings => {
+            FieldKind::Strings => {
                 *decoder = skip_strings(*decoder, end)?;
             }
-            FieldForm::Octets => decoder.set_index(end),
-            FieldForm::Lowered | FieldForm::Kept => Name::skip_with(decoder, end, jumps)?,
-            FieldForm::Tested(field) => field.skip(decoder, end)?,
+            FieldKind::Octets => decoder.set_index(end),
+            FieldKind::LoweredName | FieldKind::KeptName => Name::skip_with(decoder, end, cache)?,
+            FieldKind::Tested(field) => field.skip(decoder, end)?,
         }
         Ok(())
     }
@@ -155,21 +140,21 @@ impl<T: TestedField> FieldForm<T> {
 fn skip_fields<'a, T: TestedField>(
     mut reader: BinDecoder<'a>,
     end: usize,
-    fields: &[FieldForm<T>],
-    jumps: &mut [u16],
+    fields: &[FieldKind<T>],
+    cache: &mut [u16],
 ) -> Result<BinDecoder<'a>, DecodeError>
     requires ahead { place reader ≤ end }
     requires inside { end ≤ length (octets reader) }
-    requires jumps { AreJumps (octets reader) jumps.old }
+    requires cache { IsPointerCache (octets reader) cache.old }
     ensures exact { Gives (λ read. (tt, place read)) result
-        (without_value (fields_at (form_fields T.field fields.now) (octets reader.entry) (place reader.entry) end)) }
+        (without_value (fields_at (kind_fields T.field fields.now) (octets reader.entry) (place reader.entry) end)) }
     ensures octets { IfOk result (λ read. octets read ≡ octets reader.entry) }
     ensures forward { IfOk result (λ read. place reader.entry ≤ place read) }
     ensures inside { IfOk result (λ read. place read ≤ end) }
-    ensures jumps { AreJumps (octets reader.entry) jumps.new }
+    ensures cache { IsPointerCache (octets reader.entry) cache.new }
 {
     for field in fields {
-        field.skip(&mut reader, end, jumps)?;
+        field.skip(&mut reader, end, cache)?;
     }
     Ok(reader)
 }
@@ -178,18 +163,18 @@ fn skip_fields<'a, T: TestedField>(
 fn pass_fields<T: TestedField>(
     decoder: &mut BinDecoder<'_>,
     end: usize,
-    fields: &[FieldForm<T>],
-    jumps: &mut [u16],
+    fields: &[FieldKind<T>],
+    cache: &mut [u16],
 ) -> Result<(), DecodeError>
     requires ahead { place decoder.old ≤ end }
     requires inside { end ≤ length (octets decoder.old) }
-    requires jumps { AreJumps (octets decoder.old) jumps.old }
+    requires cache { IsPointerCache (octets decoder.old) cache.old }
     ensures exact { Reads (λ x. x) result decoder.old decoder.new
-        (without_value (fields_at (form_fields T.field fields.now) (octets decoder.old) (place decoder.old) end)) }
+        (without_value (fields_at (kind_fields T.field fields.now) (octets decoder.old) (place decoder.old) end)) }
     ensures inside { place decoder.new ≤ end }
-    ensures jumps { AreJumps (octets decoder.old) jumps.new }
+    ensures cache { IsPointerCache (octets decoder.old) cache.new }
 {
-    *decoder = skip_fields(*decoder, end, fields, jumps)?;
+    *decoder = skip_fields(*decoder, end, fields, cache)?;
     Ok(())
 }
 
@@ -202,23 +187,23 @@ fn pass_fields<T: TestedField>(
 pub fn check_fields<T: TestedField>(
     decoder: &mut BinDecoder<'_>,
     end: usize,
-    fields: &[FieldForm<T>],
-    jumps: &mut [u16],
+    fields: &[FieldKind<T>],
+    cache: &mut [u16],
 ) -> Result<(), DecodeError>
     requires ahead { place decoder.old ≤ end }
     requires inside { end ≤ length (octets decoder.old) }
-    requires jumps { AreJumps (octets decoder.old) jumps.old }
-    ensures found { OnOk result ((vs : List Value) × FieldsAt (form_fields T.field fields.now)
+    requires cache { IsPointerCache (octets decoder.old) cache.old }
+    ensures found { OnOk result ((vs : List Value) × FieldsAt (kind_fields T.field fields.now)
         (octets decoder.old) (place decoder.old) end vs (place decoder.new)) }
     ensures only { (vs : List Value) (q : ℕ)
-        → FieldsAt (form_fields T.field fields.now) (octets decoder.old) (place decoder.old) end vs q
+        → FieldsAt (kind_fields T.field fields.now) (octets decoder.old) (place decoder.old) end vs q
         → IsOk result × (place decoder.new ≡ q) }
     ensures exact { Reads (λ x. x) result decoder.old decoder.new
-        (without_value (fields_at (form_fields T.field fields.now) (octets decoder.old) (place decoder.old) end)) }
+        (without_value (fields_at (kind_fields T.field fields.now) (octets decoder.old) (place decoder.old) end)) }
     ensures inside { place decoder.new ≤ end }
-    ensures jumps { AreJumps (octets decoder.old) jumps.new }
+    ensures cache { IsPointerCache (octets decoder.old) cache.new }
 {
-    pass_fields(decoder, end, fields, jumps)
+    pass_fields(decoder, end, fields, cache)
 }
 
 /// Goes past the data of one known type, as the reading function does.
@@ -226,19 +211,19 @@ pub fn check_fields<T: TestedField>(
 fn pass_row<T: TestedField>(
     decoder: &mut BinDecoder<'_>,
     len: u16,
-    fields: &[FieldForm<T>],
-    jumps: &mut [u16],
+    fields: &[FieldKind<T>],
+    cache: &mut [u16],
 ) -> Result<(), DecodeError>
-    requires jumps { AreJumps (octets decoder.old) jumps.old }
+    requires cache { IsPointerCache (octets decoder.old) cache.old }
     ensures exact { Reads (λ x. x) result decoder.old decoder.new
-        (without_value (one_type_data_at (form_fields T.field fields.now)
+        (without_value (one_type_data_at (kind_fields T.field fields.now)
         (octets decoder.old) (place decoder.old) len)) }
-    ensures jumps { AreJumps (octets decoder.old) jumps.new }
+    ensures cache { IsPointerCache (octets decoder.old) cache.new }
 {
     let start = decoder.index();
     let end = data_end(decoder, len)?;
     let mut reader = *decoder;
-    pass_fields(&mut reader, end, fields, jumps)?;
+    pass_fields(&mut reader, end, fields, cache)?;
     expect_end(&reader, start, end)?;
     *decoder = reader;
     Ok(())
@@ -255,14 +240,14 @@ fn pass_row<T: TestedField>(
 pub fn check_row<T: TestedField>(
     decoder: &mut BinDecoder<'_>,
     len: u16,
-    fields: &[FieldForm<T>],
-    jumps: &mut [u16],
+    fields: &[FieldKind<T>],
+    cache: &mut [u16],
 ) -> Result<(), DecodeError>
-    requires jumps { AreJumps (octets decoder.old) jumps.old }
-    ensures checks { ChecksRow (form_fields T.field fields.now) len decoder.old decoder.new result }
-    ensures jumps { AreJumps (octets decoder.old) jumps.new }
+    requires cache { IsPointerCache (octets decoder.old) cache.old }
+    ensures checks { ChecksRow (kind_fields T.field fields.now) len decoder.old decoder.new result }
+    ensures cache { IsPointerCache (octets decoder.old) cache.new }
 {
-    pass_row(decoder, len, fields, jumps)
+    pass_row(decoder, len, fields, cache)
 }
 
 /// Goes past the data of a record of type `rtype`, as the reading function does.
@@ -271,19 +256,19 @@ fn pass_rdata<T: TestedField>(
     decoder: &mut BinDecoder<'_>,
     rtype: RecordType,
     len: u16,
-    fields: &[FieldForm<T>],
-    jumps: &mut [u16],
+    fields: &[FieldKind<T>],
+    cache: &mut [u16],
 ) -> Result<(), DecodeError>
-    requires jumps { AreJumps (octets decoder.old) jumps.old }
-    ensures exact { (table : Table) → form_fields T.field fields.now ≡ row_of table rtype
+    requires cache { IsPointerCache (octets decoder.old) cache.old }
+    ensures exact { (table : Table) → kind_fields T.field fields.now ≡ row_of table rtype
         → Reads (λ x. x) result decoder.old decoder.new
         (without_value (rdata_at table (octets decoder.old) (place decoder.old) len rtype)) }
-    ensures jumps { AreJumps (octets decoder.old) jumps.new }
+    ensures cache { IsPointerCache (octets decoder.old) cache.new }
 {
     if len == 0 && rtype != RecordType::TSIG {
         return Ok(());
     }
-    pass_row(decoder, len, fields, jumps)
+    pass_row(decoder, len, fields, cache)
 }
 
 /// Checks the data of a record of type `rtype`, whose fields are these, `len` octets of them, and goes behind them.
@@ -295,13 +280,13 @@ pub fn check_rdata<T: TestedField>(
     decoder: &mut BinDecoder<'_>,
     rtype: RecordType,
     len: u16,
-    fields: &[FieldForm<T>],
-    jumps: &mut [u16],
+    fields: &[FieldKind<T>],
+    cache: &mut [u16],
 ) -> Result<(), DecodeError>
-    requires jumps { AreJumps (octets decoder.old) jumps.old }
-    ensures checks { (table : Table) → form_fields T.field fields.now ≡ row_of table rtype
+    requires cache { IsPointerCache (octets decoder.old) cache.old }
+    ensures checks { (table : Table) → kind_fields T.field fields.now ≡ row_of table rtype
         → ChecksData table rtype len decoder.old decoder.new result }
-    ensures jumps { AreJumps (octets decoder.old) jumps.new }
+    ensures cache { IsPointerCache (octets decoder.old) cache.new }
 {
-    pass_rdata(decoder, rtype, len, fields, jumps)
+    pass_rdata(decoder, rtype, len, fields, cache)
 }

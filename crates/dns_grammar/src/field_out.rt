@@ -1,12 +1,13 @@
 //! The one writer of record data: fields, one behind the other.
-ghost use Rattle.std.specs.Prelude.{◌≡◌, List};
 ghost use Rattle.dns_wire.specs.declared.error.EmitError.TheVariants.{StringTooLong};
-ghost use Rattle.dns_wire.specs.Writing.{Writes};
-ghost use Rattle.dns_grammar.specs.Fields.{One, counted_octets, strings_octets};
-ghost use Rattle.dns_grammar.specs.FieldsOut.{field_out_octets, fields_out_octets, Grows};
+ghost use Rattle.dns_wire.specs.Sinks.{Puts};
+ghost use Rattle.dns_grammar.specs.Fields.{One, Two, counted_octets, strings_octets};
+ghost use Rattle.dns_grammar.specs.FieldsOut.{fields_out_octets};
 
 use dns_names::Name;
-use dns_wire::{BinEncoder, EmitError, Octets, time_octets};
+use dns_wire::{
+    EmitError, Form, OctetSink, Octets, Putting, put_u8, put_u16, put_u32, time_octets,
+};
 
 /// A field of record data that is to be written (RFC 1035 3.3).
 #[derive(Clone, Copy, Debug)]
@@ -29,103 +30,129 @@ pub enum FieldOut<'a> {
     /// octets.
     Strings(&'a [Octets]),
     /// A name that canonical form lowers (RFC 4034 6.2).
-    Lowered(&'a Name),
+    LoweredName(&'a Name),
     /// A name that canonical form keeps.
-    Kept(&'a Name),
+    KeptName(&'a Name),
 }
 
-impl FieldOut<'_> {
-    fn emit(&self, encoder: &mut BinEncoder) -> Result<(), EmitError>
-        ensures { Writes result encoder.old encoder.new (field_out_octets encoder.old.canonical_form self.now) }
-    {
+/// Names heed the canonical form and no name encoding.
+impl Putting for FieldOut<'_> {
+    ghost use Rattle.dns_grammar.specs.FieldsOut.{field_out_octets};
+
+    ghost written = { λ is_canonical _ field. field_out_octets is_canonical field };
+
+    #[tactic(auto, using(dns_wire::proofs::PutLaws::took_none))]
+    fn put<S: OctetSink>(&self, form: Form, sink: &mut S) -> Result<(), EmitError> {
         match *self {
-            FieldOut::U8(n) => encoder.emit_u8(n),
-            FieldOut::U16(n) => encoder.emit_u16(n),
-            FieldOut::U32(n) => encoder.emit_u32(n),
+            FieldOut::U8(n) => {
+                put_u8(sink, n);
+                Ok(())
+            }
+            FieldOut::U16(n) => {
+                put_u16(sink, n);
+                Ok(())
+            }
+            FieldOut::U32(n) => {
+                put_u32(sink, n);
+                Ok(())
+            }
             FieldOut::Time(time) => {
                 if time >= 1 << 48 {
                     return Err(EmitError::TimeTooLarge);
                 }
-                encoder.emit_vec(&time_octets(time))
+                sink.take(&time_octets(time));
+                Ok(())
             }
-            FieldOut::Octets(octets) => encoder.emit_vec(octets),
-            FieldOut::Counted8(octets, too_long) => match u8::try_from(octets.len()) {
-                Ok(count) => encoder.emit_both(&count.to_be_bytes(), octets),
-                Err(_) => Err(too_long),
-            },
-            FieldOut::Counted16(octets, too_long) => match u16::try_from(octets.len()) {
-                Ok(count) => encoder.emit_both(&count.to_be_bytes(), octets),
-                Err(_) => Err(too_long),
-            },
-            FieldOut::Strings(strings) => emit_strings(encoder, strings),
-            FieldOut::Lowered(name) => {
-                if encoder.is_canonical_form() {
-                    encoder.emit_vec(name.to_lowercase().as_wire())
+            FieldOut::Octets(octets) => {
+                sink.take(octets);
+                Ok(())
+            }
+            FieldOut::Counted8(octets, too_long) => put_counted8(sink, octets, too_long),
+            FieldOut::Counted16(octets, too_long) => put_counted16(sink, octets, too_long),
+            FieldOut::Strings(strings) => put_strings(sink, strings),
+            FieldOut::LoweredName(name) => {
+                if form.canonical_form {
+                    sink.take(name.to_lowercase().as_wire());
                 } else {
-                    encoder.emit_vec(name.as_wire())
+                    sink.take(name.as_wire());
                 }
+                Ok(())
             }
-            FieldOut::Kept(name) => encoder.emit_vec(name.as_wire()),
+            FieldOut::KeptName(name) => {
+                sink.take(name.as_wire());
+                Ok(())
+            }
         }
     }
 }
 
-/// Writes a string behind its count in one octet.
-fn emit_string(encoder: &mut BinEncoder, string: &Octets) -> Result<(), EmitError>
-    ensures { Writes result encoder.old encoder.new (counted_octets One StringTooLong string.now) }
+/// Puts octets behind their count in one octet.
+#[tactic(auto, using(dns_wire::proofs::PutLaws::took_none))]
+fn put_counted8<S: OctetSink>(
+    sink: &mut S,
+    octets: &[u8],
+    too_long: EmitError,
+) -> Result<(), EmitError>
+    ensures { Puts S.has_taken result sink.old sink.new (counted_octets One too_long octets.now) }
 {
-    match u8::try_from(string.len()) {
-        Ok(count) => encoder.emit_both(&count.to_be_bytes(), string.as_slice()),
-        Err(_) => Err(EmitError::StringTooLong),
+    match u8::try_from(octets.len()) {
+        Ok(count) => {
+            sink.take(&count.to_be_bytes());
+            sink.take(octets);
+            Ok(())
+        }
+        Err(_) => Err(too_long),
     }
 }
 
-/// Writes the strings up to the first that can't be written.
-fn append_strings(encoder: &mut BinEncoder, strings: &[Octets]) -> Result<(), EmitError>
-    ensures { Grows result encoder.old encoder.new (strings_octets strings.now) }
+/// Puts octets behind their count in two octets.
+#[tactic(auto, using(dns_wire::proofs::PutLaws::took_none))]
+fn put_counted16<S: OctetSink>(
+    sink: &mut S,
+    octets: &[u8],
+    too_long: EmitError,
+) -> Result<(), EmitError>
+    ensures { Puts S.has_taken result sink.old sink.new (counted_octets Two too_long octets.now) }
+{
+    match u16::try_from(octets.len()) {
+        Ok(count) => {
+            sink.take(&count.to_be_bytes());
+            sink.take(octets);
+            Ok(())
+        }
+        Err(_) => Err(too_long),
+    }
+}
+
+/// Puts a string behind its count in one octet.
+fn put_string<S: OctetSink>(sink: &mut S, string: &Octets) -> Result<(), EmitError>
+    ensures { Puts S.has_taken result sink.old sink.new (counted_octets One StringTooLong string.now) }
+{
+    put_counted8(sink, string.as_slice(), EmitError::StringTooLong)
+}
+
+/// Puts the strings, up to the first that can't be written.
+fn put_strings<S: OctetSink>(sink: &mut S, strings: &[Octets]) -> Result<(), EmitError>
+    ensures { Puts S.has_taken result sink.old sink.new (strings_octets strings.now) }
 {
     for string in strings {
-        emit_string(encoder, string)?;
+        put_string(sink, string)?;
     }
     Ok(())
 }
 
-/// Writes the strings, or nothing where one of them can't be written.
-#[tactic(auto, using(crate::proofs::FieldOutLaws::cut_back))]
-fn emit_strings(encoder: &mut BinEncoder, strings: &[Octets]) -> Result<(), EmitError>
-    ensures { Writes result encoder.old encoder.new (strings_octets strings.now) }
-{
-    let start = encoder.len();
-    let result = append_strings(encoder, strings);
-    if result.is_err() {
-        encoder.truncate(start);
-    }
-    result
-}
-
-/// Writes the fields up to the first that can't be written.
-fn append_fields(encoder: &mut BinEncoder, fields: &[FieldOut<'_>]) -> Result<(), EmitError>
-    ensures { Grows result encoder.old encoder.new (fields_out_octets encoder.old.canonical_form fields.now) }
-{
-    for field in fields {
-        field.emit(encoder)?;
-    }
-    Ok(())
-}
-
-/// Writes the fields, one behind the other, or nothing where one of them can't be written.
+/// Puts the fields, one behind the other, up to the first that can't be written.
 ///
-/// The first field that can't be written is the cause: a time of 2^48 or more is `TimeTooLarge`, a string above 255
-/// octets is `StringTooLong`, and counted octets name their own. Names heed the encoder's canonical form and not its
-/// name encoding.
-#[tactic(auto, using(crate::proofs::FieldOutLaws::cut_back))]
-pub fn emit_fields(encoder: &mut BinEncoder, fields: &[FieldOut<'_>]) -> Result<(), EmitError>
-    ensures { Writes result encoder.old encoder.new (fields_out_octets encoder.old.canonical_form fields.now) }
+/// # Errors
+///
+/// That of the first field that can't be written: a time of 2^48 or more is `TimeTooLarge`, a string above 255 octets is
+/// `StringTooLong`, and counted octets name their own.
+pub fn put_fields<S: OctetSink>(
+    sink: &mut S,
+    form: Form,
+    fields: &[FieldOut<'_>],
+) -> Result<(), EmitError>
+    ensures { Puts S.has_taken result sink.old sink.new (fields_out_octets form.canonical_form fields.now) }
 {
-    let start = encoder.len();
-    let result = append_fields(encoder, fields);
-    if result.is_err() {
-        encoder.truncate(start);
-    }
-    result
+    fields.put(form, sink)
 }

@@ -1,7 +1,7 @@
 //! Laws of the definitions, each proved for every string of octets. Nothing calls these functions.
 ghost use Rattle.std.specs.Prelude.{IsTrue, List, ℕ};
-ghost use Rattle.dns_grammar.specs.Fields.{Field, Table, row_of};
-ghost use Rattle.dns_grammar.specs.Tables.{IsTable, short_table};
+ghost use Rattle.dns_grammar.specs.Fields.{Field, Table};
+ghost use Rattle.dns_grammar.specs.Tables.{IsTable};
 ghost use Rattle.dns_grammar.specs.Extents.{SignatureStartsInside, OneStart};
 ghost use Rattle.dns_grammar.specs.Laws.{RowIsReadWhereItStands, DataIsReadWhereItStands, OneData, OneMessage};
 ghost use Rattle.dns_grammar.specs.Laws.{MessageIsReadWhereItStands, SignatureIsWhole, rest_is_last};
@@ -55,10 +55,4 @@ pub fn canonical_is_plain()
 pub fn one_start()
     ensures inside { (table : Table) → SignatureStartsInside table }
     ensures one { (table : Table) → OneStart table }
-{}
-
-/// The short table knows transaction signatures, and no field before the last takes all that is left.
-pub fn short_table_is_table()
-    ensures tsig { IsTable short_table }
-    ensures rest { (rtype : ℕ) → IsTrue (rest_is_last (row_of short_table rtype)) }
 {}

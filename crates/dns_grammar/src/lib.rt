@@ -4,10 +4,8 @@
 mod check;
 mod field_out;
 pub mod laws;
-mod short_table;
 mod span;
 
-pub use check::{FieldForm, TestedField, Untested, check_fields, check_rdata, check_row};
-pub use field_out::{FieldOut, emit_fields};
-pub use short_table::short_row;
+pub use check::{FieldKind, TestedField, check_fields, check_rdata, check_row};
+pub use field_out::{FieldOut, put_fields};
 pub use span::{data_end, expect_end};

@@ -3,11 +3,9 @@ pub mod NumberEnds
 pub mod LastSteps
 pub mod OutlineSteps
 pub mod ViewLaws
-pub mod RecordWritingSteps
 pub mod ValuesRead
 pub mod PartSteps
 pub mod ReadLaws
-pub mod GrowingSteps
 pub mod ResponseLaws
 pub mod SummarySteps
 pub mod HeldValues

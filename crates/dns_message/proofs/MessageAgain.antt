@@ -12,13 +12,14 @@ use Rattle.dns_wire.specs.Octets.{AreOctets, two_octets}
 use Rattle.dns_wire.specs.Reading.{◌>>=◌}
 use Rattle.dns_wire.proofs.FieldLaws.{is_ok_same}
 use Rattle.dns_names.proofs.PlaceLaws.{name_of_octets}
-use Rattle.dns_grammar.specs.Fields.{Two, Four, Field, joined, each_octets}
+use Rattle.dns_wire.specs.Joining.{joined, each_octets}
+use Rattle.dns_grammar.specs.Fields.{Two, Four, Field}
 use Rattle.dns_grammar.specs.RecordData.{rdata_octets}
 use Rattle.dns_grammar.specs.Laws.{IsQuery, IsRecord, IsMessage, unplaced_record, unplaced, read_unplaced}
 use Rattle.dns_grammar.specs.Messages.{Query, ResourceRecord, EachAt, QueryAt, RecordAt, MessageAt, records, message_at}
 use Rattle.dns_grammar.specs.Messages as grammar
 use Rattle.dns_grammar.specs.MessageWriting.{count_octets, header_octets, query_octets, record_octets, message_octets}
-use Rattle.dns_grammar.proofs.FieldOutLaws.{joined_nil, joined_more}
+use Rattle.dns_wire.proofs.PutLaws.{joined_nil, joined_more}
 use Rattle.dns_grammar.proofs.MessageBack.{written_message}
 use Rattle.dns_grammar.proofs.ReadAgain.{number_fits}
 use Rattle.dns_rdata.specs.declared.rdata.RData.{RData}
@@ -30,7 +31,8 @@ use Rattle.dns_message.specs.declared.message.Message.{Message}
 use Rattle.dns_message.specs.declared.record.Record.{Record}
 use Rattle.dns_message.specs.Laws.{MessageIsReadAgain}
 use Rattle.dns_message.specs.MessageWriting as own
-use Rattle.dns_message.specs.MessageWriting.{written_record, written_tsig_record, option_octets}
+use Rattle.dns_wire.specs.Joining.{option_octets}
+use Rattle.dns_message.specs.MessageWriting.{written_record, written_tsig_record}
 use Rattle.dns_message.specs.OwnedMessages.{IsReadRecord, IsReadMessage}
 use Rattle.dns_message.specs.Parts.{Parts, record_view, tsig_record_view, message_parts, parts_of, and_last, whole}
 use Rattle.dns_message.specs.Views.{query_view}

@@ -1,4 +1,4 @@
--- A message written: the counts of its header, and its parts one behind the other.
+-- The header of a message, and the counts in it.
 use Rattle.std.proofs.Common.{◌≡◌, ◌⊎◌, inl, inr, ℕ, ◌+◌, ◌-◌, ◌^◌, min, Bool, true, false, cond, ltb, List, [], ◌∷◌}
 use Rattle.std.proofs.Common.{◌++◌, length, map, Option, Some, None, option_map, Result, Ok, Err, refl, sym, ap, ◌∙◌}
 use Rattle.std.proofs.Common.{arith, length-append}
@@ -8,17 +8,12 @@ use Rattle.std.proofs.lemmas.List.{length-map}
 use Rattle.dns_wire.specs.declared.error.EmitError.{EmitError}
 use Rattle.dns_wire.specs.declared.error.EmitError.TheVariants.{CountTooLarge}
 use Rattle.dns_wire.specs.Octets.{two_octets}
-use Rattle.dns_grammar.specs.Fields.{joined, each_octets}
-use Rattle.dns_grammar.specs.MessageWriting.{count_octets, header_octets, query_octets}
+use Rattle.dns_wire.specs.Joining.{joined}
+use Rattle.dns_grammar.specs.MessageWriting.{count_octets, header_octets}
 use Rattle.dns_rdata.specs.declared.rdata.RData.{RData}
 use Rattle.sec_sigdata.specs.declared.tsig.TSIG.{TSIG}
-use Rattle.dns_message.specs.declared.message.Message.{Message}
-use Rattle.dns_message.specs.declared.query.Query.{Query}
 use Rattle.dns_message.specs.declared.record.Record.{Record}
-use Rattle.dns_message.specs.MessageWriting.{written_record, written_tsig_record, option_octets}
-use Rattle.dns_message.specs.Parts.{Parts, record_view, tsig_record_view, message_parts, and_last, whole}
-use Rattle.dns_message.specs.Views.{query_view}
-use Rattle.dns_message.proofs.GrowingSteps.{Written}
+use Rattle.dns_message.specs.Parts.{Parts, record_view, tsig_record_view, and_last, whole}
 
 -- ---- counts
 
@@ -66,35 +61,3 @@ pub header_is : (parts : Parts) (q a n d : ℕ)
 header_is parts q a n d hq ha hn hd = λ i.
     joined (Ok (two_octets parts.id ++ two_octets parts.flags))
     (joined (hq i) (joined (ha i) (joined (hn i) (hd i))))
-
--- ---- the parts of a message
-
-abbrev pub header_written : Message → Written
-header_written message canonical encoding = header_octets (whole (message_parts message))
-
-abbrev pub queries_written : List Query → Written
-queries_written queries canonical encoding = each_octets (λ query. query_octets encoding (query_view query)) queries
-
-abbrev pub records_written : List (Record RData) → Written
-records_written rrs canonical encoding = each_octets (written_record canonical encoding) rrs
-
-abbrev pub signature_written : Message → Written
-signature_written message canonical encoding = option_octets (written_tsig_record canonical encoding) message.signature
-
-abbrev pub both : Written → Written → Written
-both first rest canonical encoding = joined (first canonical encoding) (rest canonical encoding)
-
-abbrev pub additionals_on : Message → Written
-additionals_on message = both (records_written message.additionals.items) (signature_written message)
-
-abbrev pub authorities_on : Message → Written
-authorities_on message = both (records_written message.authorities.items) (additionals_on message)
-
-abbrev pub answers_on : Message → Written
-answers_on message = both (records_written message.answers.items) (authorities_on message)
-
-abbrev pub queries_on : Message → Written
-queries_on message = both (queries_written message.queries.items) (answers_on message)
-
-abbrev pub message_on : Message → Written
-message_on message = both (header_written message) (queries_on message)

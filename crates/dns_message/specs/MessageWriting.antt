@@ -1,11 +1,10 @@
 -- Records and messages that are held in memory as octets (RFC 1035 4.1).
-use Rattle.std.specs.Prelude.{◌≡◌, ◌⊎◌, Bool, ℕ, List, [], ◌++◌, length, Option, Some, None, Result, Ok, Err}
+use Rattle.std.specs.Prelude.{Bool, ℕ, List, ◌++◌, length, None, Result, Ok, Err}
 use Rattle.dns_wire.specs.declared.encoder.NameEncoding.{NameEncoding}
 use Rattle.dns_wire.specs.declared.error.EmitError.{EmitError}
-use Rattle.dns_wire.specs.declared.error.EmitError.TheVariants.{OutOfMemory}
 use Rattle.dns_wire.specs.Reading.{◌>>=◌}
-use Rattle.dns_wire.specs.Writing.{Output}
-use Rattle.dns_grammar.specs.Fields.{each_octets, fields_octets, joined}
+use Rattle.dns_wire.specs.Joining.{each_octets, joined, option_octets}
+use Rattle.dns_grammar.specs.Fields.{fields_octets}
 use Rattle.dns_grammar.specs.RecordData.{fitting, rdata_octets}
 use Rattle.dns_grammar.specs.Messages.{ResourceRecord, tsig_values}
 use Rattle.dns_grammar.specs.MessageWriting.{header_octets, query_octets, head_octets}
@@ -16,6 +15,7 @@ use Rattle.dns_rdata.specs.declared.rdata.RData.{RData}
 use Rattle.dns_rdata.specs.RData.{rdata_row, rdata_values}
 use Rattle.dns_message.specs.declared.message.Message.{Message}
 use Rattle.dns_message.specs.declared.record.Record.{Record}
+use Rattle.dns_message.specs.declared.record_writing.BorrowedRecord.{BorrowedRecord}
 use Rattle.dns_message.specs.Parts.{record_view, tsig_record_view, message_parts, whole}
 use Rattle.dns_message.specs.Views.{query_view}
 
@@ -25,12 +25,12 @@ with_rdata encoding rr written = do
   rdata ← fitting written
   Ok (head_octets encoding rr (length rdata) ++ rdata)
 
--- a record of this type, its data aside
-abbrev pub headed : {R : Type 0} → Record R → ℕ → ResourceRecord
-headed rr rtype = record {
+-- a record that is borrowed, its data aside
+abbrev pub borrowed_head : {R : Type 0} → BorrowedRecord R → ResourceRecord
+borrowed_head rr = record {
   start = 0;
-  name = rr.name;
-  rtype = rtype;
+  name = rr.name.now;
+  rtype = rr.rtype;
   dns_class = rr.dns_class;
   ttl = rr.ttl;
   rdata = None;
@@ -46,11 +46,6 @@ abbrev pub written_tsig_record : Bool → NameEncoding → Record TSIG → Resul
 written_tsig_record canonical encoding rr =
     with_rdata encoding (tsig_record_view rr) (fields_octets canonical tsig_row (tsig_values (tsig_data rr.rdata)))
 
--- the octets of what may be there
-abbrev pub option_octets : {A : Type 0} → (A → Result (List ℕ) EmitError) → Option A → Result (List ℕ) EmitError
-option_octets written None = Ok []
-option_octets written (Some x) = written x
-
 -- The octets of a message, or the first cause why there are none: CountTooLarge for more than 65,535 questions or
 -- records of one part, the signature counted among the additionals; and then that of the first record. The signature
 -- stands behind the additionals.
@@ -62,10 +57,3 @@ written_message canonical encoding message =
     (joined (each_octets (written_record canonical encoding) message.authorities.items)
     (joined (each_octets (written_record canonical encoding) message.additionals.items)
     (option_octets (written_tsig_record canonical encoding) message.signature)))))
-
--- Ok put the octets that are written at the end, and says how many they are; an error is want of memory, or the one for
--- which nothing is written, and changed nothing.
-abbrev pub WritesCounted : Result ℕ EmitError → Output → Output → Result (List ℕ) EmitError → Type 0
-WritesCounted (Ok n) old new (Ok octets) = (new ≡ record old { octets = old.octets ++ octets }) × (n ≡ length octets)
-WritesCounted (Ok n) old new (Err e) = ⊥
-WritesCounted (Err e) old new written = (new ≡ old) × ((e ≡ OutOfMemory) ⊎ (written ≡ Err e))

@@ -116,9 +116,9 @@ abbrev pub as_signature : Result (ResourceRecord × ℕ) DecodeError → Result 
 as_signature read = read >>= λ rr. Ok (signature_from rr.0, rr.1)
 
 -- a head that is read, seen by a view
-abbrev pub seen : {X : Type 0} → (grammar.RecordHead → X) → Result (grammar.RecordHead × ℕ) DecodeError
+abbrev pub map_head : {X : Type 0} → (grammar.RecordHead → X) → Result (grammar.RecordHead × ℕ) DecodeError
     → Result (X × ℕ) DecodeError
-seen view read = read >>= λ head. Ok (view head.0, head.1)
+map_head view read = read >>= λ head. Ok (view head.0, head.1)
 
 -- the header of a message, and the place behind its questions and all its records but the last additional
 unfoldable pub ahead_at : List ℕ → Result (grammar.Header × ℕ) DecodeError

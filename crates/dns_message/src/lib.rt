@@ -25,6 +25,7 @@ pub use query::{Query, skip_query};
 pub use record::Record;
 pub use record_head::{RecordHead, skip_head};
 pub use record_set::RecordSet;
+pub use record_writing::BorrowedRecord;
 pub use response::{DnsResponse, ResponseError};
 pub use section::Section;
 pub use tsig_view::TsigView;

@@ -1,7 +1,7 @@
 //! How a message is read into memory (RFC 1035 4.1), from left to right and once.
 ghost use Rattle.std.specs.Prelude.{◌≡◌, ◌≤◌, true, length, IfOk};
 ghost use Rattle.dns_wire.specs.Reading.{GivesUnless};
-ghost use Rattle.dns_names.specs.Jumps.{AreJumps};
+ghost use Rattle.dns_names.specs.PointerCache.{IsPointerCache};
 ghost use Rattle.dns_grammar.specs.Messages.{record_at};
 ghost use Rattle.dns_rdata.specs.RDataTable.{rdata_table};
 ghost use Rattle.dns_message.specs.OwnedMessages.{held, standing, standing_parts, IsReadMessage, ReadsMessage};
@@ -14,7 +14,7 @@ use crate::message::{Message, Places};
 use crate::record::Record;
 use crate::record_head::RecordHead;
 use crate::record_reading::{read_queries, read_records};
-use dns_names::with_jumps;
+use dns_names::with_pointer_cache;
 use dns_rdata::RData;
 use dns_types::RecordType;
 use dns_wire::{BinDecoder, DecodeError};
@@ -35,20 +35,20 @@ fn read_last(
     alloc: Global,
     message: &[u8],
     start: usize,
-    jumps: &mut [u16],
+    cache: &mut [u16],
 ) -> Result<(LastRecord, usize), DecodeError>
     requires inside { start ≤ length message.now }
-    requires jumps { AreJumps message.now jumps.old }
-    ensures jumps { AreJumps message.now jumps.new }
+    requires cache { IsPointerCache message.now cache.old }
+    ensures cache { IsPointerCache message.now cache.new }
     ensures exact { GivesUnless DecodeError.OutOfMemory (λ x. (last_view x.0, x.1)) result
         (unplaced_at (record_at rdata_table true message.now start)) }
     ensures as_read { IfOk result (λ x. IsReadLast x.0) }
 {
     let mut reader = BinDecoder::new(message);
     reader.set_index(start);
-    let head = RecordHead::read_with(&mut reader, jumps)?;
+    let head = RecordHead::read_with(&mut reader, cache)?;
     if head.rtype == RecordType::TSIG {
-        let rdata = TSIG::read_with(alloc, &mut reader, head.length, jumps)?;
+        let rdata = TSIG::read_with(alloc, &mut reader, head.length, cache)?;
         let rr = Record {
             name: head.name,
             dns_class: head.dns_class,
@@ -58,7 +58,7 @@ fn read_last(
         };
         return Ok((LastRecord::Signature(rr), reader.index()));
     }
-    let rdata = RData::read_with(alloc, &mut reader, head.rtype, head.length, jumps)?;
+    let rdata = RData::read_with(alloc, &mut reader, head.rtype, head.length, cache)?;
     let rr = Record {
         name: head.name,
         dns_class: head.dns_class,
@@ -75,10 +75,10 @@ fn read_last(
 fn read_ahead(
     alloc: Global,
     message: &[u8],
-    jumps: &mut [u16],
+    cache: &mut [u16],
 ) -> Result<((Message, u16), usize), DecodeError>
-    requires { AreJumps message.now jumps.old }
-    ensures jumps { AreJumps message.now jumps.new }
+    requires { IsPointerCache message.now cache.old }
+    ensures cache { IsPointerCache message.now cache.new }
     ensures exact { GivesUnless DecodeError.OutOfMemory (λ x. (ahead_view x.0, x.1)) result
         (parts_ahead_at message.now) }
     ensures inside { IfOk result (λ x. x.1 ≤ length message.now) }
@@ -88,11 +88,11 @@ fn read_ahead(
         return Err(DecodeError::MessageTooLong);
     }
     let (header, reader) = Header::read(message)?;
-    let (queries, end) = read_queries(alloc, message, reader.index(), header.questions, jumps)?;
-    let (answers, end) = read_records(alloc, message, end, header.answers, jumps)?;
-    let (authorities, end) = read_records(alloc, message, end, header.authorities, jumps)?;
+    let (queries, end) = read_queries(alloc, message, reader.index(), header.questions, cache)?;
+    let (answers, end) = read_records(alloc, message, end, header.answers, cache)?;
+    let (authorities, end) = read_records(alloc, message, end, header.authorities, cache)?;
     let others = header.additionals.saturating_sub(1);
-    let (additionals, end) = read_records(alloc, message, end, others, jumps)?;
+    let (additionals, end) = read_records(alloc, message, end, others, cache)?;
     let read = Message {
         id: header.id,
         flags: header.flags,
@@ -110,13 +110,13 @@ fn read_ahead(
 fn read_message(
     alloc: Global,
     message: &[u8],
-    jumps: &mut [u16],
+    cache: &mut [u16],
 ) -> Result<(Message, Places), DecodeError>
-    requires { AreJumps message.now jumps.old }
+    requires { IsPointerCache message.now cache.old }
     ensures exact { GivesUnless DecodeError.OutOfMemory held result (parts_at message.now) }
     ensures as_read { IfOk result (λ x. IsReadMessage x.0) }
 {
-    let ((mut read, additionals), start) = read_ahead(alloc, message, jumps)?;
+    let ((mut read, additionals), start) = read_ahead(alloc, message, cache)?;
     if additionals == 0 {
         let places = Places {
             signature: None,
@@ -124,7 +124,7 @@ fn read_message(
         };
         return Ok((read, places));
     }
-    let (last, end) = read_last(alloc, message, start, jumps)?;
+    let (last, end) = read_last(alloc, message, start, cache)?;
     match last {
         LastRecord::Other(rr) => {
             read.additionals.push(rr)?;
@@ -145,12 +145,12 @@ fn read_message(
     }
 }
 
-/// The same with a table of jumps for the message.
-fn read_with_jumps(alloc: Global, message: &[u8]) -> Result<(Message, Places), DecodeError>
+/// The same with a pointer cache for the message.
+fn read_with_cache(alloc: Global, message: &[u8]) -> Result<(Message, Places), DecodeError>
     ensures exact { GivesUnless DecodeError.OutOfMemory held result (parts_at message.now) }
     ensures as_read { IfOk result (λ x. IsReadMessage x.0) }
 {
-    with_jumps(message, |jumps| read_message(alloc, message, jumps))
+    with_pointer_cache(message, |cache| read_message(alloc, message, cache))
 }
 
 impl Message {
@@ -169,7 +169,7 @@ impl Message {
         ensures read { ReadsMessage held standing octets.now result }
         ensures as_read { IfOk result (λ x. IsReadMessage x.0) }
     {
-        read_with_jumps(alloc, octets)
+        read_with_cache(alloc, octets)
     }
 
     /// Reads the message that stands in these octets (RFC 1035 4.1). Octets behind the message are no fault. Of no

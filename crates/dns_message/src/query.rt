@@ -1,16 +1,14 @@
 //! Questions (RFC 1035 4.1.2).
 ghost use Rattle.std.specs.Prelude.{◌≡◌};
 ghost use Rattle.dns_wire.specs.Reading.{octets, place, Reads};
-ghost use Rattle.dns_names.specs.Jumps.{AreJumps};
+ghost use Rattle.dns_names.specs.PointerCache.{IsPointerCache};
 ghost use Rattle.dns_names.specs.Skipping.{without_value};
 ghost use Rattle.dns_grammar.specs.Messages.{query_at};
-ghost use Rattle.dns_grammar.specs.MessageWriting.{query_octets};
 ghost use Rattle.dns_message.specs.Views.{query_view};
 
-use crate::record_writing::emit_query;
 use dns_names::Name;
 use dns_types::{DNSClass, RecordType};
-use dns_wire::{BinDecoder, BinEncodable, BinEncoder, DecodeError, EmitError};
+use dns_wire::{BinDecoder, BinEncodable, DecodeError};
 
 /// A question: what records are asked for.
 #[derive(Clone, Copy, Debug, PartialEq, Eq)]
@@ -35,16 +33,16 @@ impl Query {
     #[tactic(auto, unfolding(dns_grammar::specs::Messages::query_at))]
     pub(crate) fn read_with(
         decoder: &mut BinDecoder<'_>,
-        jumps: &mut [u16],
+        cache: &mut [u16],
     ) -> Result<Query, DecodeError>
-        requires jumps { AreJumps (octets decoder.old) jumps.old }
-        ensures jumps { AreJumps (octets decoder.old) jumps.new }
+        requires cache { IsPointerCache (octets decoder.old) cache.old }
+        ensures cache { IsPointerCache (octets decoder.old) cache.new }
         ensures exact { Reads query_view result decoder.old decoder.new
             (query_at (octets decoder.old) (place decoder.old)) }
     {
         let mut reader = *decoder;
         let end = reader.buffer().len();
-        let name = Name::read_with(&mut reader, end, jumps)?;
+        let name = Name::read_with(&mut reader, end, cache)?;
         let query_type = reader.read_u16_within(end)?;
         let query_class = reader.read_u16_within(end)?;
         *decoder = reader;
@@ -56,18 +54,7 @@ impl Query {
     }
 }
 
-impl BinEncodable for Query {
-    ghost written = { λ _ encoding query. query_octets encoding (query_view query) };
-
-    /// Writes the question. Its name heeds the encoder's name encoding.
-    ///
-    /// # Errors
-    ///
-    /// Out of memory.
-    fn emit(&self, encoder: &mut BinEncoder) -> Result<(), EmitError> {
-        emit_query(encoder, self)
-    }
-}
+impl BinEncodable for Query {}
 
 /// Skips a question. A refused reading leaves the decoder.
 ///
@@ -75,15 +62,15 @@ impl BinEncodable for Query {
 ///
 /// Those of `Name::skip_with` for the name, and `InsufficientBytes` where the octets end within type or class.
 #[tactic(auto, unfolding(dns_grammar::specs::Messages::query_at))]
-pub fn skip_query(decoder: &mut BinDecoder<'_>, jumps: &mut [u16]) -> Result<(), DecodeError>
-    requires jumps { AreJumps (octets decoder.old) jumps.old }
-    ensures jumps { AreJumps (octets decoder.old) jumps.new }
+pub fn skip_query(decoder: &mut BinDecoder<'_>, cache: &mut [u16]) -> Result<(), DecodeError>
+    requires cache { IsPointerCache (octets decoder.old) cache.old }
+    ensures cache { IsPointerCache (octets decoder.old) cache.new }
     ensures exact { Reads (λ x. x) result decoder.old decoder.new
         (without_value (query_at (octets decoder.old) (place decoder.old))) }
 {
     let mut reader = *decoder;
     let end = reader.buffer().len();
-    Name::skip_with(&mut reader, end, jumps)?;
+    Name::skip_with(&mut reader, end, cache)?;
     reader.read_u16_within(end)?;
     reader.read_u16_within(end)?;
     *decoder = reader;

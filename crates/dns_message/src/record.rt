@@ -7,11 +7,11 @@ ghost use Rattle.dns_message.specs.MessageWriting.{written_record, written_tsig_
 ghost use Rattle.dns_message.specs.Parts.{IsRecordCopy};
 ghost use Rattle.sec_codes.specs.declared.proof.Proof.TheVariants.{Indeterminate};
 
-use crate::record_writing::emit_record;
+use crate::record_writing::BorrowedRecord;
 use dns_names::Name;
 use dns_rdata::RData;
 use dns_types::{DNSClass, RecordType};
-use dns_wire::{BinEncodable, BinEncoder, EmitError, OutOfMemory};
+use dns_wire::{BinEncodable, EmitError, Form, OctetSink, OutOfMemory, Putting};
 use sec_codes::Proof;
 use sec_sigdata::TSIG;
 use std::alloc::Global;
@@ -45,6 +45,23 @@ impl<R> Record<R> {
             proof: Proof::Indeterminate,
         }
     }
+
+    /// The record, borrowed, as one of this type.
+    fn borrowed(&self, rtype: RecordType) -> BorrowedRecord<'_, R>
+        ensures name { result.name.now ≡ self.now.name }
+        ensures rtype { result.rtype ≡ rtype }
+        ensures class { result.dns_class ≡ self.now.dns_class }
+        ensures ttl { result.ttl ≡ self.now.ttl }
+        ensures rdata { result.rdata.now ≡ self.now.rdata }
+    {
+        BorrowedRecord {
+            name: &self.name,
+            rtype,
+            dns_class: self.dns_class,
+            ttl: self.ttl,
+            rdata: &self.rdata,
+        }
+    }
 }
 
 impl Record<RData> {
@@ -73,20 +90,22 @@ impl Record<RData> {
     }
 }
 
-impl BinEncodable for Record<RData> {
+impl Putting for Record<RData> {
     ghost written = { written_record };
 
-    /// Writes the record (RFC 1035 4.1.3). Its owner heeds the encoder's name encoding, and its data the canonical
+    /// Puts the record (RFC 1035 4.1.3). Its owner heeds the name encoding, and its data the canonical
     /// form.
     ///
     /// # Errors
     ///
     /// The cause of the data's first field that can't be written, then `DataTooLong` for more than 65,535 octets of
-    /// data. Or `OutOfMemory`.
-    fn emit(&self, encoder: &mut BinEncoder) -> Result<(), EmitError> {
-        emit_record(encoder, self, self.rdata.record_type())
+    /// data.
+    fn put<S: OctetSink>(&self, form: Form, sink: &mut S) -> Result<(), EmitError> {
+        self.borrowed(self.rdata.record_type()).put(form, sink)
     }
 }
+
+impl BinEncodable for Record<RData> {}
 
 impl Record<TSIG> {
     /// The type of the record.
@@ -97,16 +116,18 @@ impl Record<TSIG> {
     }
 }
 
-impl BinEncodable for Record<TSIG> {
+impl Putting for Record<TSIG> {
     ghost written = { written_tsig_record };
 
-    /// Writes the record (RFC 1035 4.1.3). Its owner heeds the encoder's name encoding.
+    /// Puts the record (RFC 1035 4.1.3). Its owner heeds the name encoding.
     ///
     /// # Errors
     ///
     /// `TimeTooLarge`, `MacTooLong` and `OtherTooLong` in this order, then `DataTooLong` for more than 65,535 octets of
-    /// data. Or `OutOfMemory`.
-    fn emit(&self, encoder: &mut BinEncoder) -> Result<(), EmitError> {
-        emit_record(encoder, self, RecordType::TSIG)
+    /// data.
+    fn put<S: OctetSink>(&self, form: Form, sink: &mut S) -> Result<(), EmitError> {
+        self.borrowed(RecordType::TSIG).put(form, sink)
     }
 }
+
+impl BinEncodable for Record<TSIG> {}

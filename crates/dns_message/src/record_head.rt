@@ -1,9 +1,9 @@
 //! What stands before the data of a record (RFC 1035 4.1.3).
 ghost use Rattle.std.specs.Prelude.{◌≡◌, IfOk};
 ghost use Rattle.dns_wire.specs.Reading.{octets, place, Reads};
-ghost use Rattle.dns_names.specs.Jumps.{AreJumps};
+ghost use Rattle.dns_names.specs.PointerCache.{IsPointerCache};
 ghost use Rattle.dns_grammar.specs.Messages.{head_at};
-ghost use Rattle.dns_message.specs.Views.{head_view, seen};
+ghost use Rattle.dns_message.specs.Views.{head_view, map_head};
 
 use dns_names::Name;
 use dns_types::{DNSClass, RecordType};
@@ -35,16 +35,16 @@ pub struct RecordHead {
 #[tactic(auto, unfolding(dns_grammar::specs::Messages::head_at))]
 pub fn skip_head(
     decoder: &mut BinDecoder<'_>,
-    jumps: &mut [u16],
+    cache: &mut [u16],
 ) -> Result<(RecordType, u16), DecodeError>
-    requires jumps { AreJumps (octets decoder.old) jumps.old }
-    ensures jumps { AreJumps (octets decoder.old) jumps.new }
+    requires cache { IsPointerCache (octets decoder.old) cache.old }
+    ensures cache { IsPointerCache (octets decoder.old) cache.new }
     ensures exact { Reads (λ x. x) result decoder.old decoder.new
-        (seen (λ head. (head.rtype, head.data_length)) (head_at (octets decoder.old) (place decoder.old))) }
+        (map_head (λ head. (head.rtype, head.data_length)) (head_at (octets decoder.old) (place decoder.old))) }
 {
     let mut reader = *decoder;
     let end = reader.buffer().len();
-    Name::skip_with(&mut reader, end, jumps)?;
+    Name::skip_with(&mut reader, end, cache)?;
     let rtype = reader.read_u16_within(end)?;
     reader.read_u16_within(end)?;
     reader.read_u32_within(end)?;
@@ -54,7 +54,7 @@ pub fn skip_head(
 }
 
 impl RecordHead {
-    /// Reads what stands before the data of a record, its name through known jumps. A refused reading leaves the
+    /// Reads what stands before the data of a record, its name by a pointer cache. A refused reading leaves the
     /// decoder.
     ///
     /// # Errors
@@ -63,10 +63,10 @@ impl RecordHead {
     #[tactic(auto, unfolding(dns_grammar::specs::Messages::head_at))]
     pub fn read_with(
         decoder: &mut BinDecoder<'_>,
-        jumps: &mut [u16],
+        cache: &mut [u16],
     ) -> Result<RecordHead, DecodeError>
-        requires jumps { AreJumps (octets decoder.old) jumps.old }
-        ensures jumps { AreJumps (octets decoder.old) jumps.new }
+        requires cache { IsPointerCache (octets decoder.old) cache.old }
+        ensures cache { IsPointerCache (octets decoder.old) cache.new }
         ensures exact { Reads head_view result decoder.old decoder.new
             (head_at (octets decoder.old) (place decoder.old)) }
         ensures start { IfOk result (λ head. head.start ≡ place decoder.old) }
@@ -74,7 +74,7 @@ impl RecordHead {
         let mut reader = *decoder;
         let start = reader.index();
         let end = reader.buffer().len();
-        let name = Name::read_with(&mut reader, end, jumps)?;
+        let name = Name::read_with(&mut reader, end, cache)?;
         let rtype = reader.read_u16_within(end)?;
         let dns_class = reader.read_u16_within(end)?;
         let ttl = reader.read_u32_within(end)?;

@@ -2,7 +2,7 @@
 ghost use Rattle.std.specs.Prelude.{◌≡◌, ◌≤◌, false, map, length, IfOk};
 ghost use Rattle.std.specs.List.{AllByRecursion};
 ghost use Rattle.dns_wire.specs.Reading.{octets, place, GivesUnless, ReadsUnless};
-ghost use Rattle.dns_names.specs.Jumps.{AreJumps};
+ghost use Rattle.dns_names.specs.PointerCache.{IsPointerCache};
 ghost use Rattle.dns_grammar.specs.Messages.{queries_at, record_at};
 ghost use Rattle.dns_rdata.specs.RDataTable.{rdata_table};
 ghost use Rattle.dns_message.specs.MessageReading.{unplaced_at, others_at};
@@ -24,20 +24,20 @@ use std::alloc::Global;
 fn read_record(
     alloc: Global,
     decoder: &mut BinDecoder<'_>,
-    jumps: &mut [u16],
+    cache: &mut [u16],
 ) -> Result<Record<RData>, DecodeError>
-    requires jumps { AreJumps (octets decoder.old) jumps.old }
-    ensures jumps { AreJumps (octets decoder.old) jumps.new }
+    requires cache { IsPointerCache (octets decoder.old) cache.old }
+    ensures cache { IsPointerCache (octets decoder.old) cache.new }
     ensures exact { ReadsUnless record_view result decoder.old decoder.new
         (unplaced_at (record_at rdata_table false (octets decoder.old) (place decoder.old))) }
     ensures as_read { IfOk result IsReadRecord }
 {
     let mut reader = *decoder;
-    let head = RecordHead::read_with(&mut reader, jumps)?;
+    let head = RecordHead::read_with(&mut reader, cache)?;
     if head.rtype == RecordType::TSIG {
         return Err(DecodeError::TsigNotLast);
     }
-    let rdata = RData::read_with(alloc, &mut reader, head.rtype, head.length, jumps)?;
+    let rdata = RData::read_with(alloc, &mut reader, head.rtype, head.length, cache)?;
     *decoder = reader;
     Ok(Record {
         name: head.name,
@@ -55,11 +55,11 @@ pub(crate) fn read_queries(
     message: &[u8],
     start: usize,
     count: u16,
-    jumps: &mut [u16],
+    cache: &mut [u16],
 ) -> Result<(Vec<Query>, usize), DecodeError>
     requires inside { start ≤ length message.now }
-    requires jumps { AreJumps message.now jumps.old }
-    ensures jumps { AreJumps message.now jumps.new }
+    requires cache { IsPointerCache message.now cache.old }
+    ensures cache { IsPointerCache message.now cache.new }
     ensures exact { GivesUnless DecodeError.OutOfMemory (λ x. (map query_view x.0.items, x.1)) result
         (queries_at count message.now start) }
     ensures inside { IfOk result (λ x. x.1 ≤ length message.now) }
@@ -68,7 +68,7 @@ pub(crate) fn read_queries(
     reader.set_index(start);
     let mut queries = Vec::new(alloc);
     'queries: for _ in 0..count {
-        let query = Query::read_with(&mut reader, jumps)?;
+        let query = Query::read_with(&mut reader, cache)?;
         queries.push(query)?;
     }
     Ok((queries, reader.index()))
@@ -82,11 +82,11 @@ pub(crate) fn read_records(
     message: &[u8],
     start: usize,
     count: u16,
-    jumps: &mut [u16],
+    cache: &mut [u16],
 ) -> Result<(Vec<Record<RData>>, usize), DecodeError>
     requires inside { start ≤ length message.now }
-    requires jumps { AreJumps message.now jumps.old }
-    ensures jumps { AreJumps message.now jumps.new }
+    requires cache { IsPointerCache message.now cache.old }
+    ensures cache { IsPointerCache message.now cache.new }
     ensures exact { GivesUnless DecodeError.OutOfMemory (λ x. (map record_view x.0.items, x.1)) result
         (others_at count message.now start) }
     ensures inside { IfOk result (λ x. x.1 ≤ length message.now) }
@@ -96,7 +96,7 @@ pub(crate) fn read_records(
     reader.set_index(start);
     let mut records = Vec::new(alloc);
     'records: for _ in 0..count {
-        let record = read_record(alloc, &mut reader, jumps)?;
+        let record = read_record(alloc, &mut reader, cache)?;
         records.push(record)?;
     }
     Ok((records, reader.index()))

@@ -1,105 +1,91 @@
 //! How questions and records are written (RFC 1035 4.1).
-ghost use Rattle.std.specs.Prelude.{◌≡◌, Ok};
-ghost use Rattle.dns_wire.specs.Writing.{Writes};
-ghost use Rattle.dns_names.specs.Names.{wire};
-ghost use Rattle.dns_names.specs.NameWriting.{name_octets};
-ghost use Rattle.dns_grammar.specs.RecordData.{fitting};
+ghost use Rattle.std.specs.Prelude.{◌≡◌, ◌++◌};
+ghost use Rattle.dns_wire.specs.Octets.{two_octets, four_octets};
+ghost use Rattle.dns_wire.specs.Sinks.{Takes};
 ghost use Rattle.dns_grammar.specs.MessageWriting.{head_octets, query_octets};
-ghost use Rattle.dns_message.specs.MessageWriting.{headed, with_rdata, WritesCounted};
+ghost use Rattle.dns_message.specs.MessageWriting.{borrowed_head};
 ghost use Rattle.dns_message.specs.Views.{query_view};
 
 use crate::query::Query;
-use crate::record::Record;
-use dns_grammar::{FieldOut, emit_fields};
-use dns_names::Name;
-use dns_types::RecordType;
-use dns_wire::{BinEncodable, BinEncoder, EmitError, NameEncoding};
+use dns_names::{Name, put_name};
+use dns_types::{DNSClass, RecordType};
+use dns_wire::{EmitError, Form, NameEncoding, OctetSink, Putting, put_len, put_u16, put_u32};
 
-/// A name with the letters that the encoder writes.
-fn encoded_name(encoder: &BinEncoder, name: &Name) -> Name
-    ensures { wire result ≡ name_octets encoder.now.name_encoding name.now }
-{
-    match encoder.name_encoding() {
-        NameEncoding::Uncompressed => *name,
-        NameEncoding::UncompressedLowercase => name.to_lowercase(),
+impl Putting for Query {
+    ghost use Rattle.std.specs.Prelude.{Ok};
+    ghost use Rattle.dns_grammar.specs.MessageWriting.{query_octets};
+    ghost use Rattle.dns_message.specs.Views.{query_view};
+
+    ghost written = { λ _ encoding query. query_octets encoding (query_view query) };
+
+    /// Puts the question (RFC 1035 4.1.2). Its name heeds the name encoding.
+    fn put<S: OctetSink>(&self, form: Form, sink: &mut S) -> Result<(), EmitError> {
+        put_name(sink, form.name_encoding, &self.name);
+        put_u16(sink, self.query_type.into());
+        put_u16(sink, self.query_class.into());
+        Ok(())
     }
 }
 
-/// Writes a question.
-pub(crate) fn emit_query(encoder: &mut BinEncoder, query: &Query) -> Result<(), EmitError>
-    ensures { Writes result encoder.old encoder.new
-        (query_octets encoder.old.name_encoding (query_view query.now)) }
-{
-    let name = encoded_name(encoder, &query.name);
-    emit_fields(
-        encoder,
-        &[
-            FieldOut::Kept(&name),
-            FieldOut::U16(query.query_type.into()),
-            FieldOut::U16(query.query_class.into()),
-        ],
-    )
+/// A record whose owner and data are borrowed (RFC 1035 4.1.3).
+#[derive(Clone, Copy, Debug)]
+pub struct BorrowedRecord<'a, R> {
+    /// The owner.
+    pub name: &'a Name,
+    /// The type.
+    pub rtype: RecordType,
+    /// The class.
+    pub dns_class: DNSClass,
+    /// How many seconds the record may be kept.
+    pub ttl: u32,
+    /// The data.
+    pub rdata: &'a R,
 }
 
-/// Writes what stands before the data of a record of this type, with a length of 0.
-fn emit_head<R>(
-    encoder: &mut BinEncoder,
-    rr: &Record<R>,
-    rtype: RecordType,
-) -> Result<(), EmitError>
-    ensures { Writes result encoder.old encoder.new
-        (Ok (head_octets encoder.old.name_encoding (headed rr.now rtype) 0)) }
+/// Puts type, class, TTL and the length of the data.
+fn put_numbers<R, S: OctetSink>(sink: &mut S, rr: &BorrowedRecord<'_, R>, data_length: u16)
+    ensures { Takes S.has_taken sink.old sink.new
+        (two_octets rr.now.rtype
+        ++ (two_octets rr.now.dns_class ++ (four_octets rr.now.ttl ++ two_octets data_length))) }
 {
-    let name = encoded_name(encoder, &rr.name);
-    emit_fields(
-        encoder,
-        &[
-            FieldOut::Kept(&name),
-            FieldOut::U16(rtype.into()),
-            FieldOut::U16(rr.dns_class.into()),
-            FieldOut::U32(rr.ttl),
-            FieldOut::U16(0),
-        ],
-    )
+    put_u16(sink, rr.rtype.into());
+    put_u16(sink, rr.dns_class.into());
+    put_u32(sink, rr.ttl);
+    put_u16(sink, data_length);
 }
 
-/// Writes the data of a record, and counts their octets.
-fn emit_rdata<R: BinEncodable>(encoder: &mut BinEncoder, rdata: &R) -> Result<u16, EmitError>
-    ensures { WritesCounted result encoder.old encoder.new
-        (fitting (R.written encoder.old.canonical_form encoder.old.name_encoding rdata.now)) }
+/// Puts what comes before the data.
+fn put_head<R, S: OctetSink>(
+    sink: &mut S,
+    name_encoding: NameEncoding,
+    rr: &BorrowedRecord<'_, R>,
+    data_length: u16,
+)
+    ensures { Takes S.has_taken sink.old sink.new
+        (head_octets name_encoding (borrowed_head rr.now) data_length) }
 {
-    let start = encoder.len();
-    rdata.emit(encoder)?;
-    match u16::try_from(encoder.len() - start) {
-        Ok(length) => Ok(length),
-        Err(_) => {
-            encoder.truncate(start);
-            Err(EmitError::DataTooLong)
-        }
-    }
+    put_name(sink, name_encoding, rr.name);
+    put_numbers(sink, rr, data_length);
 }
 
-/// Writes a record of this type: what stands before its data, their length, and the data.
-pub(crate) fn emit_record<R: BinEncodable>(
-    encoder: &mut BinEncoder,
-    rr: &Record<R>,
-    rtype: RecordType,
-) -> Result<(), EmitError>
-    ensures { Writes result encoder.old encoder.new
-        (with_rdata encoder.old.name_encoding (headed rr.now rtype)
-        (R.written encoder.old.canonical_form encoder.old.name_encoding rr.now.rdata)) }
-{
-    let start = encoder.len();
-    emit_head(encoder, rr, rtype)?;
-    let place = encoder.len();
-    match emit_rdata(encoder, &rr.rdata) {
-        Ok(length) => {
-            encoder.place_u16(place - 2, length);
-            Ok(())
-        }
-        Err(cause) => {
-            encoder.truncate(start);
-            Err(cause)
-        }
+impl<R: Putting> Putting for BorrowedRecord<'_, R> {
+    ghost use Rattle.dns_message.specs.MessageWriting.{borrowed_head, with_rdata};
+
+    ghost written = { λ canonical encoding rr.
+        with_rdata encoding (borrowed_head rr) (R.written canonical encoding rr.rdata.now) };
+
+    /// Puts the record (RFC 1035 4.1.3). Its owner heeds the name encoding.
+    ///
+    /// # Errors
+    ///
+    /// The cause for which there are no octets of the data, or `DataTooLong` for more than 65,535 of them.
+    #[tactic(auto, using(dns_wire::proofs::PutLaws::took_none))]
+    fn put<S: OctetSink>(&self, form: Form, sink: &mut S) -> Result<(), EmitError> {
+        let length = put_len(self.rdata, form)?;
+        let Ok(data_length) = u16::try_from(length) else {
+            return Err(EmitError::DataTooLong);
+        };
+        put_head(sink, form.name_encoding, self, data_length);
+        self.rdata.put(form, sink)
     }
 }

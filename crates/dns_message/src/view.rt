@@ -2,7 +2,7 @@
 ghost use Rattle.std.specs.Prelude.{◌≡◌, ◌≤◌, false, true, length, IfOk, OnOk};
 ghost use Rattle.std.specs.Option.{option_map, ForSome};
 ghost use Rattle.dns_wire.specs.Reading.{octets, place, Gives, Reads};
-ghost use Rattle.dns_names.specs.Jumps.{AreJumps};
+ghost use Rattle.dns_names.specs.PointerCache.{IsPointerCache};
 ghost use Rattle.dns_names.specs.Skipping.{without_value};
 ghost use Rattle.dns_rdata.specs.RDataTable.{rdata_table};
 ghost use Rattle.dns_grammar.specs.Messages.{message_at, queries_at, record_at, records_at};
@@ -16,7 +16,7 @@ use crate::query::skip_query;
 use crate::record_head::{RecordHead, skip_head};
 use crate::tsig_view::TsigView;
 use dns_grammar::data_end;
-use dns_names::with_jumps;
+use dns_names::with_pointer_cache;
 use dns_rdata::RData;
 use dns_types::RecordType;
 use dns_wire::{BinDecoder, DecodeError};
@@ -36,17 +36,17 @@ pub struct MessageView<'a> {
 fn skip_queries<'a>(
     mut reader: BinDecoder<'a>,
     count: u16,
-    jumps: &mut [u16],
+    cache: &mut [u16],
 ) -> Result<BinDecoder<'a>, DecodeError>
-    requires jumps { AreJumps (octets reader) jumps.old }
-    ensures jumps { AreJumps (octets reader.entry) jumps.new }
+    requires cache { IsPointerCache (octets reader) cache.old }
+    ensures cache { IsPointerCache (octets reader.entry) cache.new }
     ensures exact { Gives (λ read. (tt, place read)) result
         (without_value (queries_at count (octets reader.entry) (place reader.entry))) }
     ensures octets { IfOk result (λ read. octets read ≡ octets reader.entry) }
     ensures forward { IfOk result (λ read. place reader.entry ≤ place read) }
 {
     'queries: for _ in 0..count {
-        skip_query(&mut reader, jumps)?;
+        skip_query(&mut reader, cache)?;
     }
     Ok(reader)
 }
@@ -56,30 +56,30 @@ fn skip_rdata(
     decoder: &mut BinDecoder<'_>,
     rtype: RecordType,
     length: u16,
-    jumps: &mut [u16],
+    cache: &mut [u16],
 ) -> Result<(), DecodeError>
-    requires jumps { AreJumps (octets decoder.old) jumps.old }
-    ensures jumps { AreJumps (octets decoder.old) jumps.new }
+    requires cache { IsPointerCache (octets decoder.old) cache.old }
+    ensures cache { IsPointerCache (octets decoder.old) cache.new }
     ensures exact { Reads (λ x. x) result decoder.old decoder.new
         (without_value (rdata_at rdata_table (octets decoder.old) (place decoder.old) length rtype)) }
 {
-    RData::check_with(decoder, rtype, length, jumps)
+    RData::check_with(decoder, rtype, length, cache)
 }
 
 /// Skips a record that isn't the last additional.
 #[tactic(auto, unfolding(dns_grammar::specs::Messages::record_at))]
-fn skip_record(decoder: &mut BinDecoder<'_>, jumps: &mut [u16]) -> Result<(), DecodeError>
-    requires jumps { AreJumps (octets decoder.old) jumps.old }
-    ensures jumps { AreJumps (octets decoder.old) jumps.new }
+fn skip_record(decoder: &mut BinDecoder<'_>, cache: &mut [u16]) -> Result<(), DecodeError>
+    requires cache { IsPointerCache (octets decoder.old) cache.old }
+    ensures cache { IsPointerCache (octets decoder.old) cache.new }
     ensures exact { Reads (λ x. x) result decoder.old decoder.new
         (without_value (record_at rdata_table false (octets decoder.old) (place decoder.old))) }
 {
     let mut reader = *decoder;
-    let (rtype, length) = skip_head(&mut reader, jumps)?;
+    let (rtype, length) = skip_head(&mut reader, cache)?;
     if rtype == RecordType::TSIG {
         return Err(DecodeError::TsigNotLast);
     }
-    skip_rdata(&mut reader, rtype, length, jumps)?;
+    skip_rdata(&mut reader, rtype, length, cache)?;
     *decoder = reader;
     Ok(())
 }
@@ -89,25 +89,25 @@ fn skip_record(decoder: &mut BinDecoder<'_>, jumps: &mut [u16]) -> Result<(), De
 fn skip_records<'a>(
     mut reader: BinDecoder<'a>,
     count: u16,
-    jumps: &mut [u16],
+    cache: &mut [u16],
 ) -> Result<BinDecoder<'a>, DecodeError>
-    requires jumps { AreJumps (octets reader) jumps.old }
-    ensures jumps { AreJumps (octets reader.entry) jumps.new }
+    requires cache { IsPointerCache (octets reader) cache.old }
+    ensures cache { IsPointerCache (octets reader.entry) cache.new }
     ensures exact { Gives (λ read. (tt, place read)) result
         (without_value (records_at rdata_table count (octets reader.entry) (place reader.entry))) }
     ensures octets { IfOk result (λ read. octets read ≡ octets reader.entry) }
     ensures forward { IfOk result (λ read. place reader.entry ≤ place read) }
 {
     'records: for _ in 0..count {
-        skip_record(&mut reader, jumps)?;
+        skip_record(&mut reader, cache)?;
     }
     Ok(reader)
 }
 
 /// The header of a message, and the place behind its questions and all its records but the last additional.
 #[tactic(auto, unfolding(crate::specs::Views::ahead_at))]
-fn read_ahead(message: &[u8], jumps: &mut [u16]) -> Result<(Header, usize), DecodeError>
-    requires { AreJumps message.now jumps.old }
+fn read_ahead(message: &[u8], cache: &mut [u16]) -> Result<(Header, usize), DecodeError>
+    requires { IsPointerCache message.now cache.old }
     ensures exact { Gives (λ x. (header_view x.0, x.1)) result (ahead_at message.now) }
     ensures ahead { IfOk result (λ x. 12 ≤ x.1) }
     ensures inside { IfOk result (λ x. x.1 ≤ length message.now) }
@@ -116,20 +116,20 @@ fn read_ahead(message: &[u8], jumps: &mut [u16]) -> Result<(Header, usize), Deco
         return Err(DecodeError::MessageTooLong);
     }
     let (header, reader) = Header::read(message)?;
-    let reader = skip_queries(reader, header.questions, jumps)?;
-    let reader = skip_records(reader, header.answers, jumps)?;
-    let reader = skip_records(reader, header.authorities, jumps)?;
-    let reader = skip_records(reader, header.additionals.saturating_sub(1), jumps)?;
+    let reader = skip_queries(reader, header.questions, cache)?;
+    let reader = skip_records(reader, header.answers, cache)?;
+    let reader = skip_records(reader, header.authorities, cache)?;
+    let reader = skip_records(reader, header.additionals.saturating_sub(1), cache)?;
     Ok((header, reader.index()))
 }
 
-/// The same with a table of jumps for the message.
+/// The same with a pointer cache for the message.
 fn message_ahead(message: &[u8]) -> Result<(Header, usize), DecodeError>
     ensures exact { Gives (λ x. (header_view x.0, x.1)) result (ahead_at message.now) }
     ensures ahead { IfOk result (λ x. 12 ≤ x.1) }
     ensures inside { IfOk result (λ x. x.1 ≤ length message.now) }
 {
-    with_jumps(message, |jumps| read_ahead(message, jumps))
+    with_pointer_cache(message, |cache| read_ahead(message, cache))
 }
 
 /// Reads the last additional record, where that is a transaction signature, or skips it.

@@ -7,7 +7,7 @@ use Rattle.dns_wire.specs.declared.error.DecodeError.{DecodeError}
 use Rattle.dns_wire.specs.declared.error.DecodeError.TheVariants.{InsufficientBytes, NameMalformed}
 use Rattle.dns_names.specs.Places.{LabelsRead, pointer_target, read_octet, prepend_label, at_pointer, read_labels}
 use Rattle.dns_names.specs.Places.{name_at}
-use Rattle.dns_names.specs.Jumps.{labels_read, LeadsTo, AreJumps}
+use Rattle.dns_names.specs.PointerCache.{labels_read, LeadsTo, IsPointerCache}
 use Rattle.dns_names.specs.LabelReading.{with_next}
 use Rattle.dns_names.specs.Skipping.{without_value}
 use Rattle.dns_names.proofs.Steps.{reads_end, reads_zero, reads_long, reads_short, reads_label, reads_other, reads_half}
@@ -45,8 +45,8 @@ leads-pointer m t within high before = record {
 }
 
 -- an entry leads where it says
-pub leads-jump : {m jumps : List ℕ} (all : AreJumps m jumps) (t : ℕ) → LeadsTo m t (t - slice_index jumps t)
-leads-jump all t = all.leads t
+pub leads-cached : {m cache : List ℕ} (all : IsPointerCache m cache) (t : ℕ) → LeadsTo m t (t - slice_index cache t)
+leads-cached all t = all.leads t
 
 -- an empty table, each of whose places leads to itself
 none_at : (n t : ℕ) → slice_index (replicate n 0) t ≡ 0
@@ -54,14 +54,14 @@ none_at zero t = refl
 none_at (suc n) zero = refl
 none_at (suc n) (suc t) = none_at n t
 
-pub jumps_none : (m : List ℕ) (n : ℕ) → AreJumps m (replicate n 0)
-jumps_none m n = record {
+pub cache_none : (m : List ℕ) (n : ℕ) → IsPointerCache m (replicate n 0)
+cache_none m n = record {
   before = λ t. omega (arith, none_at n t);
   leads = λ t. let stays : t ≡ t - slice_index (replicate n 0) t = omega (arith, none_at n t) in subst
       (λ u. LeadsTo m t u) stays (leads-self m t);
 }
 
-pub ruleset steps = (leads-self, leads-on, leads-between, leads-pointer, leads-jump)
+pub ruleset steps = (leads-self, leads-on, leads-between, leads-pointer, leads-cached)
 
 -- ---- one step
 

@@ -3,6 +3,6 @@ pub mod NameLaws
 pub mod NameWriting
 pub mod Places
 pub mod NameText
-pub mod Jumps
+pub mod PointerCache
 pub mod LabelReading
 pub mod Skipping

@@ -1,8 +1,8 @@
 //! The labels of a name, read one by one where the name stands (RFC 1035 4.1.4).
 ghost use Rattle.std.specs.Prelude.{◌≤◌, length};
 
-use crate::jumps::last_of_chain;
 use crate::name::has_room;
+use crate::pointer_cache::last_of_chain;
 use dns_wire::DecodeError;
 
 /// How far a name was read.
@@ -37,7 +37,7 @@ pub(crate) enum Step<'a> {
 impl<'a> LabelReader<'a> {
     ghost use Rattle.std.specs.Prelude.{◌≡◌};
     ghost use Rattle.dns_names.specs.Places.{name_at};
-    ghost use Rattle.dns_names.specs.Jumps.{AreJumps};
+    ghost use Rattle.dns_names.specs.PointerCache.{IsPointerCache};
     ghost use Rattle.dns_names.specs.LabelReading.{to_read, Steps};
 
     /// Begins a name whose first run ends at or before `end`.
@@ -65,9 +65,9 @@ impl<'a> LabelReader<'a> {
     /// `InsufficientBytes` where an octet is needed past the end, `NameMalformed` for a length octet of 64 to 191, for
     /// a pointer that does not lead before its run and for a wire form above 255 octets.
     #[tactic(auto, using(crate::proofs::Chains::exits))]
-    pub(crate) fn step(&mut self, jumps: &mut [u16]) -> Result<Step<'a>, DecodeError>
-        requires jumps { AreJumps self.old.octets.now jumps.old }
-        ensures jumps { AreJumps self.new.octets.now jumps.new }
+    pub(crate) fn step(&mut self, cache: &mut [u16]) -> Result<Step<'a>, DecodeError>
+        requires cache { IsPointerCache self.old.octets.now cache.old }
+        ensures cache { IsPointerCache self.new.octets.now cache.new }
         ensures octets { self.new.octets.now ≡ self.old.octets.now }
         ensures steps { Steps result self.old self.new }
     {
@@ -100,7 +100,7 @@ impl<'a> LabelReader<'a> {
                 return Err(DecodeError::NameMalformed);
             }
             self.next = self.next.or(Some(self.place + 2));
-            self.run = last_of_chain(self.octets, target, jumps);
+            self.run = last_of_chain(self.octets, target, cache);
             self.place = self.run;
             self.end = self.octets.len();
             Ok(Step::Pointer)

@@ -10,10 +10,10 @@ ghost use Rattle.dns_names.specs.NameLaws.{same_alike};
 ghost use Rattle.std.specs.Iterator.{YieldsFirstRef, item_count};
 ghost use Rattle.dns_names.specs.NameWriting.{name_octets};
 ghost use Rattle.dns_names.specs.NameText.{add_label};
-ghost use Rattle.dns_wire.specs.Writing.{Appends};
+ghost use Rattle.dns_wire.specs.Sinks.{Takes};
 
 use crate::label::Label;
-use dns_wire::{BinEncodable, BinEncoder, EmitError, NameEncoding, NameError};
+use dns_wire::{BinEncodable, EmitError, Form, NameEncoding, NameError, OctetSink, Putting};
 use std::hash::{Hash, Hasher};
 use std::marker::Model;
 
@@ -177,27 +177,31 @@ impl Name {
     }
 }
 
-impl BinEncodable for Name {
+/// Puts the wire form of a name, in lower case where the encoding says so.
+pub fn put_name<S: OctetSink>(sink: &mut S, name_encoding: NameEncoding, name: &Name)
+    ensures octets { Takes S.has_taken sink.old sink.new (name_octets name_encoding name.now) }
+    ensures is_name { IsName name.now }
+{
+    match name_encoding {
+        NameEncoding::Uncompressed => sink.take(name.as_wire()),
+        NameEncoding::UncompressedLowercase => sink.take(name.to_lowercase().as_wire()),
+    }
+}
+
+impl Putting for Name {
     ghost use Rattle.std.specs.Prelude.{Ok};
     ghost use Rattle.dns_names.specs.NameWriting.{name_octets};
 
     ghost written = { λ canonical_form name_encoding n. Ok (name_octets name_encoding n) };
 
-    /// Writes the wire form, lower-cased where the encoder's name encoding says so.
-    ///
-    /// # Errors
-    ///
-    /// Want of memory, and the encoder stays as it was.
-    fn emit(&self, encoder: &mut BinEncoder) -> Result<(), EmitError>
-        ensures octets { Appends result encoder.old encoder.new (name_octets encoder.old.name_encoding self.now) }
-        ensures is_name { IsName self.now }
-    {
-        match encoder.name_encoding() {
-            NameEncoding::Uncompressed => encoder.emit_vec(self.as_wire()),
-            NameEncoding::UncompressedLowercase => encoder.emit_vec(self.to_lowercase().as_wire()),
-        }
+    /// Puts the wire form, in lower case where the form says so.
+    fn put<S: OctetSink>(&self, form: Form, sink: &mut S) -> Result<(), EmitError> {
+        put_name(sink, form.name_encoding, self);
+        Ok(())
     }
 }
+
+impl BinEncodable for Name {}
 
 /// Whether a wire form of `size` octets has room for one more label, of `label` octets.
 pub(crate) fn has_room(size: usize, label: usize) -> bool

@@ -3,7 +3,7 @@ ghost use Rattle.std.specs.Prelude.{◌≡◌, ℕ, ◌≤◌, List, length, IsO
 ghost use Rattle.dns_wire.specs.Reading.{octets, place, Gives, Reads};
 ghost use Rattle.dns_names.specs.Names.{IsName};
 ghost use Rattle.dns_names.specs.Places.{NameAt, name_at};
-ghost use Rattle.dns_names.specs.Jumps.{AreJumps};
+ghost use Rattle.dns_names.specs.PointerCache.{IsPointerCache};
 ghost use Rattle.dns_names.specs.Skipping.{without_value};
 
 use crate::label_reader::{LabelReader, Step};
@@ -14,7 +14,7 @@ impl Name {
     /// Reads the name at the decoder's place, its first run ending at or before `end`. A pointer leads before the first
     /// octet of its own run.
     ///
-    /// Chains of pointers that were gone through before are known from `jumps`, and those that are met are noted there.
+    /// Pointers that were followed before are known from `cache`, and those that are met are noted there.
     ///
     /// # Errors
     ///
@@ -24,21 +24,21 @@ impl Name {
     pub fn read_with(
         decoder: &mut BinDecoder<'_>,
         end: usize,
-        jumps: &mut [u16],
+        cache: &mut [u16],
     ) -> Result<Name, DecodeError>
         requires ahead { place decoder.old ≤ end }
         requires inside { end ≤ length (octets decoder.old) }
-        requires jumps { AreJumps (octets decoder.old) jumps.old }
+        requires cache { IsPointerCache (octets decoder.old) cache.old }
         ensures found { IfOk result (λ n. NameAt (octets decoder.old) (place decoder.old) end n (place decoder.new)) }
         ensures only { (n : List (List ℕ)) (next : ℕ) → NameAt (octets decoder.old) (place decoder.old) end n next
             → (result ≡ Ok n) × (place decoder.new ≡ next) }
         ensures exact { Reads (λ n. n) result decoder.old decoder.new
             (name_at (octets decoder.old) (place decoder.old) end) }
         ensures name { IfOk result IsName }
-        ensures jumps { AreJumps (octets decoder.old) jumps.new }
+        ensures cache { IsPointerCache (octets decoder.old) cache.new }
         ensures inside { place decoder.new ≤ end }
     {
-        let (name, next) = read_at(decoder.buffer(), decoder.index(), end, jumps)?;
+        let (name, next) = read_at(decoder.buffer(), decoder.index(), end, cache)?;
         // The field shows the proof that the value is a name.
         let _ = name.len();
         decoder.set_index(next);
@@ -53,21 +53,21 @@ impl Name {
     pub fn skip_with(
         decoder: &mut BinDecoder<'_>,
         end: usize,
-        jumps: &mut [u16],
+        cache: &mut [u16],
     ) -> Result<(), DecodeError>
         requires ahead { place decoder.old ≤ end }
         requires inside { end ≤ length (octets decoder.old) }
-        requires jumps { AreJumps (octets decoder.old) jumps.old }
+        requires cache { IsPointerCache (octets decoder.old) cache.old }
         ensures found { OnOk result
             ((n : List (List ℕ)) × NameAt (octets decoder.old) (place decoder.old) end n (place decoder.new)) }
         ensures only { (n : List (List ℕ)) (next : ℕ) → NameAt (octets decoder.old) (place decoder.old) end n next
             → IsOk result × (place decoder.new ≡ next) }
         ensures exact { Reads (λ x. x) result decoder.old decoder.new
             (without_value (name_at (octets decoder.old) (place decoder.old) end)) }
-        ensures jumps { AreJumps (octets decoder.old) jumps.new }
+        ensures cache { IsPointerCache (octets decoder.old) cache.new }
         ensures inside { place decoder.new ≤ end }
     {
-        let next = skip_at(decoder.buffer(), decoder.index(), end, jumps)?;
+        let next = skip_at(decoder.buffer(), decoder.index(), end, cache)?;
         decoder.set_index(next);
         Ok(())
     }
@@ -121,17 +121,17 @@ fn read_at(
     octets: &[u8],
     place: usize,
     end: usize,
-    jumps: &mut [u16],
+    cache: &mut [u16],
 ) -> Result<(Name, usize), DecodeError>
     requires inside { end ≤ length octets.now }
-    requires jumps { AreJumps octets.now jumps.old }
+    requires cache { IsPointerCache octets.now cache.old }
     ensures value { result ≡ name_at octets.now place end }
-    ensures jumps { AreJumps octets.now jumps.new }
+    ensures cache { IsPointerCache octets.now cache.new }
 {
     let mut reader = LabelReader::new(octets, place, end);
     let mut name = Name::root();
     'steps: loop {
-        match reader.step(jumps)? {
+        match reader.step(cache)? {
             Step::Label(label) => name.push(label),
             Step::Pointer => (),
             Step::Root(next) => return Ok((name, next)),
@@ -141,15 +141,15 @@ fn read_at(
 
 /// The place behind the name at `place`, whose first run ends at or before `end`.
 #[tactic(auto, using(crate::proofs::Chains::skipping))]
-fn skip_at(octets: &[u8], place: usize, end: usize, jumps: &mut [u16]) -> Result<usize, DecodeError>
+fn skip_at(octets: &[u8], place: usize, end: usize, cache: &mut [u16]) -> Result<usize, DecodeError>
     requires inside { end ≤ length octets.now }
-    requires jumps { AreJumps octets.now jumps.old }
+    requires cache { IsPointerCache octets.now cache.old }
     ensures value { Gives (λ next. (tt, next)) result (without_value (name_at octets.now place end)) }
-    ensures jumps { AreJumps octets.now jumps.new }
+    ensures cache { IsPointerCache octets.now cache.new }
 {
     let mut reader = LabelReader::new(octets, place, end);
     'steps: loop {
-        if let Step::Root(next) = reader.step(jumps)? {
+        if let Step::Root(next) = reader.step(cache)? {
             return Ok(next);
         }
     }

@@ -8,8 +8,9 @@ use Rattle.dns_wire.specs.Lookup.{lookup}
 use Rattle.dns_wire.specs.Octets.{AreOctets}
 use Rattle.dns_wire.proofs.FieldLaws.{is_ok_same}
 use Rattle.dns_names.specs.NameLaws.{length-wire-low}
-use Rattle.dns_grammar.specs.Fields.{Kind, Lowered, Value, Num, Str, Strs, Named, Field, Table, row_of, unknown_row}
-use Rattle.dns_grammar.specs.Fields.{joined, value_octets, fields_octets, SameValue, SameValues}
+use Rattle.dns_grammar.specs.Fields.{Kind, LoweredName, Value, Num, Str, Strs, Named, Field, Table, row_of, unknown_row}
+use Rattle.dns_wire.specs.Joining.{joined}
+use Rattle.dns_grammar.specs.Fields.{value_octets, fields_octets, SameValue, SameValues}
 use Rattle.dns_grammar.specs.RecordData.{RowAt, RDataAt, fields_filling, fitting, canon, Agree}
 use Rattle.dns_grammar.specs.Laws.{HoldsAll, takes_rest, rest_is_last, shown_value, shown_values}
 use Rattle.dns_grammar.proofs.CanonicalLaws.{fields_canonical, agreeing_have_one_form}
@@ -22,13 +23,13 @@ use Rattle.dns_rdata.proofs.OneReadingValues.{without_tests, shown_hold}
 -- ---- equal shown values
 
 value_same : (kind : Kind) (v w : Value) → shown_value kind v ≡ shown_value kind w → SameValue kind v w
-value_same Lowered (Named n) (Named z) same = cc
-value_same Lowered (Named n) (Num z) same = absurd cc
-value_same Lowered (Named n) (Str z) same = absurd cc
-value_same Lowered (Named n) (Strs z) same = absurd cc
-value_same Lowered (Num n) (Named z) same = absurd cc
-value_same Lowered (Str n) (Named z) same = absurd cc
-value_same Lowered (Strs n) (Named z) same = absurd cc
+value_same LoweredName (Named n) (Named z) same = cc
+value_same LoweredName (Named n) (Num z) same = absurd cc
+value_same LoweredName (Named n) (Str z) same = absurd cc
+value_same LoweredName (Named n) (Strs z) same = absurd cc
+value_same LoweredName (Num n) (Named z) same = absurd cc
+value_same LoweredName (Str n) (Named z) same = absurd cc
+value_same LoweredName (Strs n) (Named z) same = absurd cc
 value_same _ v w same = same
 
 values_same : (fields : List Field) (vs ws : List Value) → HoldsAll (without_tests fields) (shown_values fields vs)
@@ -78,7 +79,7 @@ octets_same fields vs ws x last holds others is other =
 
 value_length : (kind : Kind) (v : Value) (x y : List ℕ) → value_octets true kind v ≡ Ok x
     → value_octets false kind v ≡ Ok y → length x ≡ length y
-value_length Lowered (Named n) x y is other =
+value_length LoweredName (Named n) x y is other =
     sym (ap length (ok_octets _ x is)) ∙ length-wire-low n ∙ ap length (ok_octets _ y other)
 value_length _ v x y is other = ap length (ok_octets x y (sym is ∙ other))
 

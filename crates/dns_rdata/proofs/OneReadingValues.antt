@@ -2,12 +2,12 @@
 use Rattle.std.proofs.Common.{ℕ, List, [], ◌∷◌, refl}
 use Rattle.dns_wire.specs.Octets.{AreOctets}
 use Rattle.dns_names.specs.NameLaws.{low_name}
-use Rattle.dns_grammar.specs.Fields.{Kind, Lowered, Value, Named, Field, any, FieldsAt}
+use Rattle.dns_grammar.specs.Fields.{Kind, LoweredName, Value, Named, Field, any, FieldsAt}
 use Rattle.dns_grammar.specs.Laws.{Holds, HoldsAll, shown_value, shown_values}
 use Rattle.dns_grammar.proofs.ReadAgain.{can_write}
 
 shown_holds : (kind : Kind) (v : Value) → Holds kind v → Holds kind (shown_value kind v)
-shown_holds Lowered (Named n) holds = low_name n holds
+shown_holds LoweredName (Named n) holds = low_name n holds
 shown_holds _ v holds = holds
 
 -- fields of the same kinds that allow every value, so lowered names too

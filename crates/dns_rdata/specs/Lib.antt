@@ -1,5 +1,5 @@
 pub mod RDataTable
-pub mod DataTests
+pub mod FieldChecks
 pub mod PlainData
 pub mod RData
 pub mod Texts

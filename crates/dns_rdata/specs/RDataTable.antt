@@ -3,13 +3,17 @@
 use Rattle.std.specs.Prelude.{List, [], ◌∷◌}
 use Rattle.dns_wire.specs.declared.error.EmitError.TheVariants.{StringTooLong}
 use Rattle.dns_types.specs.TypeNumbers as types
-use Rattle.dns_grammar.specs.Fields.{One, Two, Four, Number, Fixed, Counted, Strings, Lowered, Field, Table, any}
+use Rattle.dns_grammar.specs.Fields.{One, Two, Four, Number, Fixed, Counted, Strings, LoweredName, Field, Table, any}
 use Rattle.dns_grammar.specs.Fields.{unknown_row}
-use Rattle.dns_grammar.specs.Tables.{a_row, tsig_row}
+use Rattle.dns_grammar.specs.Tables.{tsig_row}
 use Rattle.sec_keydata.specs.KeyRows.{dnskey_row, ds_row, key_row}
 use Rattle.sec_sigdata.specs.SignatureRows.{sig_row, nsec_row, nsec3_row, nsec3param_row}
 
 -- ---- rows; canonical form lowers each of these names (RFC 4034 6.2)
+
+-- an address (RFC 1035 3.4.1)
+abbrev pub a_row : List Field
+a_row = any (Fixed 4) ∷ []
 
 -- an address of IPv6 (RFC 3596 2.2)
 abbrev pub aaaa_row : List Field
@@ -17,35 +21,35 @@ aaaa_row = any (Fixed 16) ∷ []
 
 -- a name
 abbrev pub name_row : List Field
-name_row = any Lowered ∷ []
+name_row = any LoweredName ∷ []
 
 -- a number, as a preference, and the name of a host
 abbrev pub number_name_row : List Field
-number_name_row = any (Number Two) ∷ any Lowered ∷ []
+number_name_row = any (Number Two) ∷ any LoweredName ∷ []
 
 -- two names
 abbrev pub two_names_row : List Field
-two_names_row = any Lowered ∷ any Lowered ∷ []
+two_names_row = any LoweredName ∷ any LoweredName ∷ []
 
 -- a number and two names
 abbrev pub number_two_names_row : List Field
-number_two_names_row = any (Number Two) ∷ any Lowered ∷ any Lowered ∷ []
+number_two_names_row = any (Number Two) ∷ any LoweredName ∷ any LoweredName ∷ []
 
 -- the primary server, the mailbox of who is responsible, serial, refresh, retry, expire, minimum (RFC 1035 3.3.13)
 abbrev pub soa_row : List Field
 soa_row =
-    any Lowered ∷ any Lowered ∷ any (Number Four) ∷ any (Number Four) ∷ any (Number Four) ∷ any (Number Four)
+    any LoweredName ∷ any LoweredName ∷ any (Number Four) ∷ any (Number Four) ∷ any (Number Four) ∷ any (Number Four)
     ∷ any (Number Four) ∷ []
 
 -- priority, weight, port, target (RFC 2782)
 abbrev pub srv_row : List Field
-srv_row = any (Number Two) ∷ any (Number Two) ∷ any (Number Two) ∷ any Lowered ∷ []
+srv_row = any (Number Two) ∷ any (Number Two) ∷ any (Number Two) ∷ any LoweredName ∷ []
 
 -- order, preference, flags, services, regular expression, replacement (RFC 3403 4.1)
 abbrev pub naptr_row : List Field
 naptr_row =
     any (Number Two) ∷ any (Number Two) ∷ any (Counted One StringTooLong) ∷ any (Counted One StringTooLong)
-    ∷ any (Counted One StringTooLong) ∷ any Lowered ∷ []
+    ∷ any (Counted One StringTooLong) ∷ any LoweredName ∷ []
 
 -- strings, at least one of them, since data of no octets are empty (RFC 1035 3.3.14)
 abbrev pub txt_row : List Field

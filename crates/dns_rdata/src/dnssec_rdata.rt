@@ -1,13 +1,13 @@
 //! The data of DNSSEC records: keys, digests of keys, signatures and denial.
 ghost use Rattle.std.specs.Prelude.{◌≡◌, Some, IfOk};
-ghost use Rattle.dns_wire.specs.Writing.{Writes};
+ghost use Rattle.dns_wire.specs.Sinks.{Puts};
 ghost use Rattle.dns_grammar.specs.Fields.{fields_octets};
 ghost use Rattle.dns_rdata.specs.RData.{dnssec_row, dnssec_type, dnssec_values, dnssec_text, IsDnssecCopy};
 
 use crate::null::NULL;
 use dns_text::Base64Text;
 use dns_types::RecordType;
-use dns_wire::{BinEncodable, BinEncoder, EmitError, OutOfMemory};
+use dns_wire::{EmitError, Form, OctetSink, OutOfMemory, Putting};
 use sec_keydata::{CDNSKEY, CDS, DNSKEY, DS, KEY};
 use sec_sigdata::{NSEC, NSEC3, NSEC3PARAM, RRSIG, SIG};
 use std::alloc::Global;
@@ -94,22 +94,22 @@ impl DNSSECRData {
     }
 
     /// Writes the data.
-    pub(crate) fn emit(&self, encoder: &mut BinEncoder) -> Result<(), EmitError>
-        ensures { Writes result encoder.old encoder.new
-            (fields_octets encoder.old.canonical_form (dnssec_row self.now) (dnssec_values self.now)) }
+    pub(crate) fn put<S: OctetSink>(&self, form: Form, sink: &mut S) -> Result<(), EmitError>
+        ensures { Puts S.has_taken result sink.old sink.new
+            (fields_octets form.canonical_form (dnssec_row self.now) (dnssec_values self.now)) }
     {
         match self {
-            DNSSECRData::CDNSKEY(key) => key.emit(encoder),
-            DNSSECRData::CDS(cds) => cds.emit(encoder),
-            DNSSECRData::DNSKEY(key) => key.emit(encoder),
-            DNSSECRData::DS(ds) => ds.emit(encoder),
-            DNSSECRData::KEY(key) => key.emit(encoder),
-            DNSSECRData::NSEC(nsec) => nsec.emit(encoder),
-            DNSSECRData::NSEC3(nsec3) => nsec3.emit(encoder),
-            DNSSECRData::NSEC3PARAM(param) => param.emit(encoder),
-            DNSSECRData::RRSIG(rrsig) => rrsig.emit(encoder),
-            DNSSECRData::SIG(sig) => sig.emit(encoder),
-            DNSSECRData::Unknown { rdata, .. } => rdata.emit(encoder),
+            DNSSECRData::CDNSKEY(key) => key.put(form, sink),
+            DNSSECRData::CDS(cds) => cds.put(form, sink),
+            DNSSECRData::DNSKEY(key) => key.put(form, sink),
+            DNSSECRData::DS(ds) => ds.put(form, sink),
+            DNSSECRData::KEY(key) => key.put(form, sink),
+            DNSSECRData::NSEC(nsec) => nsec.put(form, sink),
+            DNSSECRData::NSEC3(nsec3) => nsec3.put(form, sink),
+            DNSSECRData::NSEC3PARAM(param) => param.put(form, sink),
+            DNSSECRData::RRSIG(rrsig) => rrsig.put(form, sink),
+            DNSSECRData::SIG(sig) => sig.put(form, sink),
+            DNSSECRData::Unknown { rdata, .. } => rdata.put(form, sink),
         }
     }
 }

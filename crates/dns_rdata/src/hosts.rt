@@ -1,6 +1,6 @@
 //! Data of a number and the names of hosts.
 ghost use Rattle.dns_wire.specs.Reading.{octets, place, Reads};
-ghost use Rattle.dns_names.specs.Jumps.{AreJumps};
+ghost use Rattle.dns_names.specs.PointerCache.{IsPointerCache};
 ghost use Rattle.dns_grammar.specs.RecordData.{one_type_data_at};
 ghost use Rattle.dns_rdata.specs.PlainData.{mx_values, afsdb_values, rt_values, kx_values, px_values};
 ghost use Rattle.dns_rdata.specs.RDataTable.{number_name_row, number_two_names_row};
@@ -23,14 +23,14 @@ impl MX {
     pub(crate) fn read_with(
         decoder: &mut BinDecoder<'_>,
         length: u16,
-        jumps: &mut [u16],
+        cache: &mut [u16],
     ) -> Result<MX, DecodeError>
-        requires jumps { AreJumps (octets decoder.old) jumps.old }
+        requires cache { IsPointerCache (octets decoder.old) cache.old }
         ensures exact { Reads mx_values result decoder.old decoder.new
             (one_type_data_at number_name_row (octets decoder.old) (place decoder.old) length) }
-        ensures jumps { AreJumps (octets decoder.old) jumps.new }
+        ensures cache { IsPointerCache (octets decoder.old) cache.new }
     {
-        let (preference, exchange) = read_number_name(decoder, length, jumps)?;
+        let (preference, exchange) = read_number_name(decoder, length, cache)?;
         Ok(MX {
             preference,
             exchange,
@@ -52,14 +52,14 @@ impl AFSDB {
     pub(crate) fn read_with(
         decoder: &mut BinDecoder<'_>,
         length: u16,
-        jumps: &mut [u16],
+        cache: &mut [u16],
     ) -> Result<AFSDB, DecodeError>
-        requires jumps { AreJumps (octets decoder.old) jumps.old }
+        requires cache { IsPointerCache (octets decoder.old) cache.old }
         ensures exact { Reads afsdb_values result decoder.old decoder.new
             (one_type_data_at number_name_row (octets decoder.old) (place decoder.old) length) }
-        ensures jumps { AreJumps (octets decoder.old) jumps.new }
+        ensures cache { IsPointerCache (octets decoder.old) cache.new }
     {
-        let (subtype, hostname) = read_number_name(decoder, length, jumps)?;
+        let (subtype, hostname) = read_number_name(decoder, length, cache)?;
         Ok(AFSDB { subtype, hostname })
     }
 }
@@ -78,14 +78,14 @@ impl RT {
     pub(crate) fn read_with(
         decoder: &mut BinDecoder<'_>,
         length: u16,
-        jumps: &mut [u16],
+        cache: &mut [u16],
     ) -> Result<RT, DecodeError>
-        requires jumps { AreJumps (octets decoder.old) jumps.old }
+        requires cache { IsPointerCache (octets decoder.old) cache.old }
         ensures exact { Reads rt_values result decoder.old decoder.new
             (one_type_data_at number_name_row (octets decoder.old) (place decoder.old) length) }
-        ensures jumps { AreJumps (octets decoder.old) jumps.new }
+        ensures cache { IsPointerCache (octets decoder.old) cache.new }
     {
-        let (preference, intermediate) = read_number_name(decoder, length, jumps)?;
+        let (preference, intermediate) = read_number_name(decoder, length, cache)?;
         Ok(RT {
             preference,
             intermediate,
@@ -107,14 +107,14 @@ impl KX {
     pub(crate) fn read_with(
         decoder: &mut BinDecoder<'_>,
         length: u16,
-        jumps: &mut [u16],
+        cache: &mut [u16],
     ) -> Result<KX, DecodeError>
-        requires jumps { AreJumps (octets decoder.old) jumps.old }
+        requires cache { IsPointerCache (octets decoder.old) cache.old }
         ensures exact { Reads kx_values result decoder.old decoder.new
             (one_type_data_at number_name_row (octets decoder.old) (place decoder.old) length) }
-        ensures jumps { AreJumps (octets decoder.old) jumps.new }
+        ensures cache { IsPointerCache (octets decoder.old) cache.new }
     {
-        let (preference, exchanger) = read_number_name(decoder, length, jumps)?;
+        let (preference, exchanger) = read_number_name(decoder, length, cache)?;
         Ok(KX {
             preference,
             exchanger,
@@ -138,14 +138,14 @@ impl PX {
     pub(crate) fn read_with(
         decoder: &mut BinDecoder<'_>,
         length: u16,
-        jumps: &mut [u16],
+        cache: &mut [u16],
     ) -> Result<PX, DecodeError>
-        requires jumps { AreJumps (octets decoder.old) jumps.old }
+        requires cache { IsPointerCache (octets decoder.old) cache.old }
         ensures exact { Reads px_values result decoder.old decoder.new
             (one_type_data_at number_two_names_row (octets decoder.old) (place decoder.old) length) }
-        ensures jumps { AreJumps (octets decoder.old) jumps.new }
+        ensures cache { IsPointerCache (octets decoder.old) cache.new }
     {
-        let (preference, map822, mapx400) = read_number_two_names(decoder, length, jumps)?;
+        let (preference, map822, mapx400) = read_number_two_names(decoder, length, cache)?;
         Ok(PX {
             preference,
             map822,

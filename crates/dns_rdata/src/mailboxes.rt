@@ -1,6 +1,6 @@
 //! Data of two names, of which the first is a mailbox.
 ghost use Rattle.dns_wire.specs.Reading.{octets, place, Reads};
-ghost use Rattle.dns_names.specs.Jumps.{AreJumps};
+ghost use Rattle.dns_names.specs.PointerCache.{IsPointerCache};
 ghost use Rattle.dns_grammar.specs.RecordData.{one_type_data_at};
 ghost use Rattle.dns_rdata.specs.PlainData.{minfo_values, rp_values};
 ghost use Rattle.dns_rdata.specs.RDataTable.{two_names_row};
@@ -23,14 +23,14 @@ impl MINFO {
     pub(crate) fn read_with(
         decoder: &mut BinDecoder<'_>,
         length: u16,
-        jumps: &mut [u16],
+        cache: &mut [u16],
     ) -> Result<MINFO, DecodeError>
-        requires jumps { AreJumps (octets decoder.old) jumps.old }
+        requires cache { IsPointerCache (octets decoder.old) cache.old }
         ensures exact { Reads minfo_values result decoder.old decoder.new
             (one_type_data_at two_names_row (octets decoder.old) (place decoder.old) length) }
-        ensures jumps { AreJumps (octets decoder.old) jumps.new }
+        ensures cache { IsPointerCache (octets decoder.old) cache.new }
     {
-        let (rmailbx, emailbx) = read_two_names(decoder, length, jumps)?;
+        let (rmailbx, emailbx) = read_two_names(decoder, length, cache)?;
         Ok(MINFO { rmailbx, emailbx })
     }
 }
@@ -49,14 +49,14 @@ impl RP {
     pub(crate) fn read_with(
         decoder: &mut BinDecoder<'_>,
         length: u16,
-        jumps: &mut [u16],
+        cache: &mut [u16],
     ) -> Result<RP, DecodeError>
-        requires jumps { AreJumps (octets decoder.old) jumps.old }
+        requires cache { IsPointerCache (octets decoder.old) cache.old }
         ensures exact { Reads rp_values result decoder.old decoder.new
             (one_type_data_at two_names_row (octets decoder.old) (place decoder.old) length) }
-        ensures jumps { AreJumps (octets decoder.old) jumps.new }
+        ensures cache { IsPointerCache (octets decoder.old) cache.new }
     {
-        let (mbox, txt) = read_two_names(decoder, length, jumps)?;
+        let (mbox, txt) = read_two_names(decoder, length, cache)?;
         Ok(RP { mbox, txt })
     }
 }

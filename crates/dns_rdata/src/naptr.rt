@@ -1,16 +1,16 @@
 //! A rule that makes one name of another (RFC 3403).
 ghost use Rattle.std.specs.Prelude.{◌≡◌, IfOk};
 ghost use Rattle.dns_wire.specs.Reading.{octets, place, ReadsUnless};
-ghost use Rattle.dns_wire.specs.Writing.{Writes};
-ghost use Rattle.dns_names.specs.Jumps.{AreJumps};
+ghost use Rattle.dns_wire.specs.Sinks.{Puts};
+ghost use Rattle.dns_names.specs.PointerCache.{IsPointerCache};
 ghost use Rattle.dns_grammar.specs.Fields.{fields_octets};
 ghost use Rattle.dns_grammar.specs.RecordData.{one_type_data_at};
 ghost use Rattle.dns_rdata.specs.PlainData.{naptr_values};
 ghost use Rattle.dns_rdata.specs.RDataTable.{naptr_row};
 
-use dns_grammar::{FieldOut, data_end, emit_fields, expect_end};
+use dns_grammar::{FieldOut, data_end, expect_end, put_fields};
 use dns_names::Name;
-use dns_wire::{BinDecoder, BinEncoder, DecodeError, EmitError, Octets, OutOfMemory};
+use dns_wire::{BinDecoder, DecodeError, EmitError, Form, OctetSink, Octets, OutOfMemory};
 use std::alloc::Global;
 
 /// A naming authority pointer (RFC 3403 4.1).
@@ -55,12 +55,12 @@ impl NAPTR {
         alloc: Global,
         decoder: &mut BinDecoder<'_>,
         length: u16,
-        jumps: &mut [u16],
+        cache: &mut [u16],
     ) -> Result<NAPTR, DecodeError>
-        requires jumps { AreJumps (octets decoder.old) jumps.old }
+        requires cache { IsPointerCache (octets decoder.old) cache.old }
         ensures exact { ReadsUnless naptr_values result decoder.old decoder.new
             (one_type_data_at naptr_row (octets decoder.old) (place decoder.old) length) }
-        ensures jumps { AreJumps (octets decoder.old) jumps.new }
+        ensures cache { IsPointerCache (octets decoder.old) cache.new }
     {
         let start = decoder.index();
         let end = data_end(decoder, length)?;
@@ -70,7 +70,7 @@ impl NAPTR {
         let flags = reader.read_counted8_within(end)?;
         let services = reader.read_counted8_within(end)?;
         let regexp = reader.read_counted8_within(end)?;
-        let replacement = Name::read_with(&mut reader, end, jumps)?;
+        let replacement = Name::read_with(&mut reader, end, cache)?;
         expect_end(&reader, start, end)?;
         let flags = Octets::from_slice(alloc, flags)?;
         let services = Octets::from_slice(alloc, services)?;
@@ -87,19 +87,20 @@ impl NAPTR {
     }
 
     /// Writes the data.
-    pub(crate) fn emit(&self, encoder: &mut BinEncoder) -> Result<(), EmitError>
-        ensures { Writes result encoder.old encoder.new
-            (fields_octets encoder.old.canonical_form naptr_row (naptr_values self.now)) }
+    pub(crate) fn put<S: OctetSink>(&self, form: Form, sink: &mut S) -> Result<(), EmitError>
+        ensures { Puts S.has_taken result sink.old sink.new
+            (fields_octets form.canonical_form naptr_row (naptr_values self.now)) }
     {
-        emit_fields(
-            encoder,
+        put_fields(
+            sink,
+            form,
             &[
                 FieldOut::U16(self.order),
                 FieldOut::U16(self.preference),
                 FieldOut::Counted8(self.flags.as_slice(), EmitError::StringTooLong),
                 FieldOut::Counted8(self.services.as_slice(), EmitError::StringTooLong),
                 FieldOut::Counted8(self.regexp.as_slice(), EmitError::StringTooLong),
-                FieldOut::Lowered(&self.replacement),
+                FieldOut::LoweredName(&self.replacement),
             ],
         )
     }

@@ -1,13 +1,13 @@
 //! Data that nothing is known of (RFC 1035 3.3.10, RFC 3597).
 ghost use Rattle.std.specs.Prelude.{◌≡◌, IfOk};
 ghost use Rattle.dns_wire.specs.Reading.{octets, place, ReadsUnless};
-ghost use Rattle.dns_wire.specs.Writing.{Writes};
+ghost use Rattle.dns_wire.specs.Sinks.{Puts};
 ghost use Rattle.dns_grammar.specs.Fields.{fields_octets, unknown_row};
 ghost use Rattle.dns_grammar.specs.RecordData.{one_type_data_at};
 ghost use Rattle.dns_rdata.specs.PlainData.{null_octets, null_values};
 
-use dns_grammar::{FieldOut, data_end, emit_fields};
-use dns_wire::{BinDecoder, BinEncoder, DecodeError, EmitError, Octets, OutOfMemory};
+use dns_grammar::{FieldOut, data_end, put_fields};
+use dns_wire::{BinDecoder, DecodeError, EmitError, Form, OctetSink, Octets, OutOfMemory};
 use std::alloc::Global;
 
 /// Any octets. A contract sees them, by `null_octets`.
@@ -62,10 +62,10 @@ impl NULL {
     }
 
     /// Writes the data.
-    pub(crate) fn emit(&self, encoder: &mut BinEncoder) -> Result<(), EmitError>
-        ensures { Writes result encoder.old encoder.new
-            (fields_octets encoder.old.canonical_form unknown_row (null_values self.now)) }
+    pub(crate) fn put<S: OctetSink>(&self, form: Form, sink: &mut S) -> Result<(), EmitError>
+        ensures { Puts S.has_taken result sink.old sink.new
+            (fields_octets form.canonical_form unknown_row (null_values self.now)) }
     {
-        emit_fields(encoder, &[FieldOut::Octets(self.anything.as_slice())])
+        put_fields(sink, form, &[FieldOut::Octets(self.anything.as_slice())])
     }
 }

@@ -7,15 +7,16 @@ ghost use Rattle.dns_rdata.specs.RData.{rdata_type, rdata_row, rdata_values, IsC
 use crate::dnssec_rdata::DNSSECRData;
 use crate::hosts::{AFSDB, KX, MX, PX, RT};
 use crate::mailboxes::{MINFO, RP};
-use crate::name_fields::{emit_name, emit_number_name, emit_number_two_names, emit_two_names};
+use crate::name_fields::{put_number_name, put_number_two_names, put_one_name, put_two_names};
 use crate::naptr::NAPTR;
 use crate::null::NULL;
 use crate::soa::SOA;
 use crate::srv::SRV;
 use crate::txt::TXT;
+use dns_grammar::{FieldOut, put_fields};
 use dns_names::Name;
 use dns_types::RecordType;
-use dns_wire::{BinEncodable, BinEncoder, EmitError, OutOfMemory};
+use dns_wire::{BinEncodable, BinEncoder, EmitError, Form, OctetSink, OutOfMemory, Putting};
 use sec_sigdata::TSIG;
 use std::alloc::Global;
 
@@ -179,19 +180,19 @@ impl RData {
     }
 }
 
-impl BinEncodable for RData {
+impl Putting for RData {
     ghost written = { λ canonical _ rdata. rdata_octets canonical (rdata_row rdata) (rdata_values rdata) };
 
-    /// Writes the data. Names heed the encoder's canonical form and not its name encoding.
+    /// Puts the data. Names heed the canonical form and not its name encoding.
     ///
     /// # Errors
     ///
     /// The first field that can't be written decides: `StringTooLong`, `SaltTooLong`, `HashTooLong`, and for a TSIG
-    /// `TimeTooLarge`, `MacTooLong` or `OtherTooLong`. Or `OutOfMemory`.
-    fn emit(&self, encoder: &mut BinEncoder) -> Result<(), EmitError> {
+    /// `TimeTooLarge`, `MacTooLong` or `OtherTooLong`.
+    fn put<S: OctetSink>(&self, form: Form, sink: &mut S) -> Result<(), EmitError> {
         match self {
-            RData::A(octets) => encoder.emit_vec(octets),
-            RData::AAAA(octets) => encoder.emit_vec(octets),
+            RData::A(octets) => put_fields(sink, form, &[FieldOut::Octets(octets)]),
+            RData::AAAA(octets) => put_fields(sink, form, &[FieldOut::Octets(octets)]),
             RData::NS(name)
             | RData::MD(name)
             | RData::MF(name)
@@ -200,24 +201,26 @@ impl BinEncodable for RData {
             | RData::MG(name)
             | RData::MR(name)
             | RData::PTR(name)
-            | RData::DNAME(name) => emit_name(encoder, name),
-            RData::MX(mx) => emit_number_name(encoder, mx.preference, &mx.exchange),
-            RData::AFSDB(afsdb) => emit_number_name(encoder, afsdb.subtype, &afsdb.hostname),
-            RData::RT(rt) => emit_number_name(encoder, rt.preference, &rt.intermediate),
-            RData::KX(kx) => emit_number_name(encoder, kx.preference, &kx.exchanger),
+            | RData::DNAME(name) => put_one_name(sink, form, name),
+            RData::MX(mx) => put_number_name(sink, form, mx.preference, &mx.exchange),
+            RData::AFSDB(afsdb) => put_number_name(sink, form, afsdb.subtype, &afsdb.hostname),
+            RData::RT(rt) => put_number_name(sink, form, rt.preference, &rt.intermediate),
+            RData::KX(kx) => put_number_name(sink, form, kx.preference, &kx.exchanger),
             RData::PX(px) => {
-                emit_number_two_names(encoder, px.preference, &px.map822, &px.mapx400)
+                put_number_two_names(sink, form, px.preference, &px.map822, &px.mapx400)
             }
-            RData::MINFO(minfo) => emit_two_names(encoder, &minfo.rmailbx, &minfo.emailbx),
-            RData::RP(rp) => emit_two_names(encoder, &rp.mbox, &rp.txt),
-            RData::SOA(soa) => soa.emit(encoder),
-            RData::SRV(srv) => srv.emit(encoder),
-            RData::NAPTR(naptr) => naptr.emit(encoder),
-            RData::TXT(txt) => txt.emit(encoder),
-            RData::NULL(null) | RData::OPT(null) | RData::Unknown(_, null) => null.emit(encoder),
-            RData::DNSSEC(rdata) => rdata.emit(encoder),
-            RData::TSIG(tsig) => tsig.emit(encoder),
+            RData::MINFO(minfo) => put_two_names(sink, form, &minfo.rmailbx, &minfo.emailbx),
+            RData::RP(rp) => put_two_names(sink, form, &rp.mbox, &rp.txt),
+            RData::SOA(soa) => soa.put(form, sink),
+            RData::SRV(srv) => srv.put(form, sink),
+            RData::NAPTR(naptr) => naptr.put(form, sink),
+            RData::TXT(txt) => txt.put(form, sink),
+            RData::NULL(null) | RData::OPT(null) | RData::Unknown(_, null) => null.put(form, sink),
+            RData::DNSSEC(rdata) => rdata.put(form, sink),
+            RData::TSIG(tsig) => tsig.put(form, sink),
             RData::Update0(_) => Ok(()),
         }
     }
 }
+
+impl BinEncodable for RData {}

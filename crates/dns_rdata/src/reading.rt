@@ -1,13 +1,14 @@
 //! Record data read, and checked, by the table.
 ghost use Rattle.std.specs.Prelude.{◌∷◌, [], IfOk};
 ghost use Rattle.dns_wire.specs.Reading.{octets, place, Reads, ReadsUnless};
-ghost use Rattle.dns_names.specs.Jumps.{AreJumps};
+ghost use Rattle.dns_names.specs.PointerCache.{IsPointerCache};
 ghost use Rattle.dns_grammar.specs.Fields.{Fixed, Str, any};
 ghost use Rattle.dns_grammar.specs.RecordData.{one_type_data_at, rdata_at};
 ghost use Rattle.dns_grammar.specs.RowReaders.{ReadsData, ChecksData};
 ghost use Rattle.dns_rdata.specs.RData.{rdata_values, filled_data_at, IsOfType};
 ghost use Rattle.dns_rdata.specs.RDataTable.{rdata_table};
 
+use crate::data_fields::rdata_fields;
 use crate::hosts::{AFSDB, KX, MX, PX, RT};
 use crate::mailboxes::{MINFO, RP};
 use crate::name_fields::{read_name, read_number_name, read_number_two_names, read_two_names};
@@ -15,7 +16,6 @@ use crate::naptr::NAPTR;
 use crate::null::NULL;
 use crate::rdata::RData;
 use crate::record_data::RecordData;
-use crate::rows::rdata_fields;
 use crate::soa::SOA;
 use crate::srv::SRV;
 use crate::txt::TXT;
@@ -55,36 +55,36 @@ fn read_filled(
     decoder: &mut BinDecoder<'_>,
     rtype: RecordType,
     length: u16,
-    jumps: &mut [u16],
+    cache: &mut [u16],
 ) -> Result<RData, DecodeError>
-    requires jumps { AreJumps (octets decoder.old) jumps.old }
+    requires cache { IsPointerCache (octets decoder.old) cache.old }
     ensures exact { ReadsUnless rdata_values result decoder.old decoder.new
         (filled_data_at rtype (octets decoder.old) (place decoder.old) length) }
     ensures by_number { IfOk result (IsOfType rtype) }
-    ensures jumps { AreJumps (octets decoder.old) jumps.new }
+    ensures cache { IsPointerCache (octets decoder.old) cache.new }
 {
     match rtype {
         RecordType::A => Ok(RData::A(read_octets(decoder, length)?)),
         RecordType::AAAA => Ok(RData::AAAA(read_octets(decoder, length)?)),
-        RecordType::NS => Ok(RData::NS(read_name(decoder, length, jumps)?)),
-        RecordType::MD => Ok(RData::MD(read_name(decoder, length, jumps)?)),
-        RecordType::MF => Ok(RData::MF(read_name(decoder, length, jumps)?)),
-        RecordType::CNAME => Ok(RData::CNAME(read_name(decoder, length, jumps)?)),
-        RecordType::MB => Ok(RData::MB(read_name(decoder, length, jumps)?)),
-        RecordType::MG => Ok(RData::MG(read_name(decoder, length, jumps)?)),
-        RecordType::MR => Ok(RData::MR(read_name(decoder, length, jumps)?)),
-        RecordType::PTR => Ok(RData::PTR(read_name(decoder, length, jumps)?)),
-        RecordType::DNAME => Ok(RData::DNAME(read_name(decoder, length, jumps)?)),
-        RecordType::MX => Ok(RData::MX(MX::read_with(decoder, length, jumps)?)),
-        RecordType::AFSDB => Ok(RData::AFSDB(AFSDB::read_with(decoder, length, jumps)?)),
-        RecordType::RT => Ok(RData::RT(RT::read_with(decoder, length, jumps)?)),
-        RecordType::KX => Ok(RData::KX(KX::read_with(decoder, length, jumps)?)),
-        RecordType::PX => Ok(RData::PX(PX::read_with(decoder, length, jumps)?)),
-        RecordType::MINFO => Ok(RData::MINFO(MINFO::read_with(decoder, length, jumps)?)),
-        RecordType::RP => Ok(RData::RP(RP::read_with(decoder, length, jumps)?)),
-        RecordType::SOA => Ok(RData::SOA(SOA::read_with(decoder, length, jumps)?)),
-        RecordType::SRV => Ok(RData::SRV(SRV::read_with(decoder, length, jumps)?)),
-        RecordType::NAPTR => Ok(RData::NAPTR(NAPTR::read_with(alloc, decoder, length, jumps)?)),
+        RecordType::NS => Ok(RData::NS(read_name(decoder, length, cache)?)),
+        RecordType::MD => Ok(RData::MD(read_name(decoder, length, cache)?)),
+        RecordType::MF => Ok(RData::MF(read_name(decoder, length, cache)?)),
+        RecordType::CNAME => Ok(RData::CNAME(read_name(decoder, length, cache)?)),
+        RecordType::MB => Ok(RData::MB(read_name(decoder, length, cache)?)),
+        RecordType::MG => Ok(RData::MG(read_name(decoder, length, cache)?)),
+        RecordType::MR => Ok(RData::MR(read_name(decoder, length, cache)?)),
+        RecordType::PTR => Ok(RData::PTR(read_name(decoder, length, cache)?)),
+        RecordType::DNAME => Ok(RData::DNAME(read_name(decoder, length, cache)?)),
+        RecordType::MX => Ok(RData::MX(MX::read_with(decoder, length, cache)?)),
+        RecordType::AFSDB => Ok(RData::AFSDB(AFSDB::read_with(decoder, length, cache)?)),
+        RecordType::RT => Ok(RData::RT(RT::read_with(decoder, length, cache)?)),
+        RecordType::KX => Ok(RData::KX(KX::read_with(decoder, length, cache)?)),
+        RecordType::PX => Ok(RData::PX(PX::read_with(decoder, length, cache)?)),
+        RecordType::MINFO => Ok(RData::MINFO(MINFO::read_with(decoder, length, cache)?)),
+        RecordType::RP => Ok(RData::RP(RP::read_with(decoder, length, cache)?)),
+        RecordType::SOA => Ok(RData::SOA(SOA::read_with(decoder, length, cache)?)),
+        RecordType::SRV => Ok(RData::SRV(SRV::read_with(decoder, length, cache)?)),
+        RecordType::NAPTR => Ok(RData::NAPTR(NAPTR::read_with(alloc, decoder, length, cache)?)),
         RecordType::TXT => Ok(RData::TXT(TXT::read(alloc, decoder, length)?)),
         RecordType::NULL => Ok(RData::NULL(NULL::read(alloc, decoder, length)?)),
         RecordType::OPT => Ok(RData::OPT(NULL::read(alloc, decoder, length)?)),
@@ -93,12 +93,12 @@ fn read_filled(
         RecordType::DS => Ok(DS::read_data(alloc, decoder, length)?.into_rdata()),
         RecordType::CDS => Ok(CDS::read_data(alloc, decoder, length)?.into_rdata()),
         RecordType::KEY => Ok(KEY::read_data(alloc, decoder, length)?.into_rdata()),
-        RecordType::NSEC => Ok(NSEC::read_with(alloc, decoder, length, jumps)?.into_rdata()),
+        RecordType::NSEC => Ok(NSEC::read_with(alloc, decoder, length, cache)?.into_rdata()),
         RecordType::NSEC3 => Ok(NSEC3::read_data(alloc, decoder, length)?.into_rdata()),
         RecordType::NSEC3PARAM => Ok(NSEC3PARAM::read_data(alloc, decoder, length)?.into_rdata()),
-        RecordType::SIG => Ok(SIG::read_with(alloc, decoder, length, jumps)?.into_rdata()),
-        RecordType::RRSIG => Ok(RRSIG::read_with(alloc, decoder, length, jumps)?.into_rdata()),
-        RecordType::TSIG => Ok(TSIG::read_with(alloc, decoder, length, jumps)?.into_rdata()),
+        RecordType::SIG => Ok(SIG::read_with(alloc, decoder, length, cache)?.into_rdata()),
+        RecordType::RRSIG => Ok(RRSIG::read_with(alloc, decoder, length, cache)?.into_rdata()),
+        RecordType::TSIG => Ok(TSIG::read_with(alloc, decoder, length, cache)?.into_rdata()),
         _ => Ok(RData::Unknown(rtype, NULL::read(alloc, decoder, length)?)),
     }
 }
@@ -110,25 +110,25 @@ fn read_any(
     decoder: &mut BinDecoder<'_>,
     rtype: RecordType,
     length: u16,
-    jumps: &mut [u16],
+    cache: &mut [u16],
 ) -> Result<RData, DecodeError>
-    requires jumps { AreJumps (octets decoder.old) jumps.old }
+    requires cache { IsPointerCache (octets decoder.old) cache.old }
     ensures exact { ReadsUnless rdata_values result decoder.old decoder.new
         (rdata_at rdata_table (octets decoder.old) (place decoder.old) length rtype) }
     ensures by_number { IfOk result (IsOfType rtype) }
-    ensures jumps { AreJumps (octets decoder.old) jumps.new }
+    ensures cache { IsPointerCache (octets decoder.old) cache.new }
 {
     if length == 0 && rtype != RecordType::TSIG {
         return Ok(RData::Update0(rtype));
     }
-    read_filled(alloc, decoder, rtype, length, jumps)
+    read_filled(alloc, decoder, rtype, length, cache)
 }
 
 impl RData {
     /// Reads the data of a record of type `rtype`, `length` octets of them. No octets are `Update0`, for every type but
     /// TSIG.
     ///
-    /// Chains of pointers that were gone through before are known from `jumps`, and those that are met are noted there.
+    /// Pointers that were followed before are known from `cache`, and those that are met are noted there.
     ///
     /// # Errors
     ///
@@ -142,13 +142,13 @@ impl RData {
         decoder: &mut BinDecoder<'_>,
         rtype: RecordType,
         length: u16,
-        jumps: &mut [u16],
+        cache: &mut [u16],
     ) -> Result<RData, DecodeError>
-        requires jumps { AreJumps (octets decoder.old) jumps.old }
+        requires cache { IsPointerCache (octets decoder.old) cache.old }
         ensures read { ReadsData rdata_table rdata_values (IsOfType rtype) rtype length decoder.old decoder.new result }
-        ensures jumps { AreJumps (octets decoder.old) jumps.new }
+        ensures cache { IsPointerCache (octets decoder.old) cache.new }
     {
-        read_any(alloc, decoder, rtype, length, jumps)
+        read_any(alloc, decoder, rtype, length, cache)
     }
 
     /// Reads the data of a record of type `rtype`, `length` octets of them. No octets are `Update0`, for every type but
@@ -171,7 +171,7 @@ impl RData {
     /// Checks the data of a record of type `rtype`, `length` octets of them, and goes behind them, as `read_with` does,
     /// without the value and without memory.
     ///
-    /// Chains of pointers that were gone through before are known from `jumps`, and those that are met are noted there.
+    /// Pointers that were followed before are known from `cache`, and those that are met are noted there.
     ///
     /// # Errors
     ///
@@ -180,13 +180,13 @@ impl RData {
         decoder: &mut BinDecoder<'_>,
         rtype: RecordType,
         length: u16,
-        jumps: &mut [u16],
+        cache: &mut [u16],
     ) -> Result<(), DecodeError>
-        requires jumps { AreJumps (octets decoder.old) jumps.old }
+        requires cache { IsPointerCache (octets decoder.old) cache.old }
         ensures checked { ChecksData rdata_table rtype length decoder.old decoder.new result }
-        ensures jumps { AreJumps (octets decoder.old) jumps.new }
+        ensures cache { IsPointerCache (octets decoder.old) cache.new }
     {
-        check_rdata(decoder, rtype, length, rdata_fields(rtype), jumps)
+        check_rdata(decoder, rtype, length, rdata_fields(rtype), cache)
     }
 
     /// Checks the data of a record of type `rtype`, `length` octets of them, and goes behind them, as `read` does,

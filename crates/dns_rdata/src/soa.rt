@@ -1,15 +1,15 @@
 //! The start of a zone (RFC 1035 3.3.13).
 ghost use Rattle.dns_wire.specs.Reading.{octets, place, Reads};
-ghost use Rattle.dns_wire.specs.Writing.{Writes};
-ghost use Rattle.dns_names.specs.Jumps.{AreJumps};
+ghost use Rattle.dns_wire.specs.Sinks.{Puts};
+ghost use Rattle.dns_names.specs.PointerCache.{IsPointerCache};
 ghost use Rattle.dns_grammar.specs.Fields.{fields_octets};
 ghost use Rattle.dns_grammar.specs.RecordData.{one_type_data_at};
 ghost use Rattle.dns_rdata.specs.PlainData.{soa_values};
 ghost use Rattle.dns_rdata.specs.RDataTable.{soa_row};
 
-use dns_grammar::{FieldOut, data_end, emit_fields, expect_end};
+use dns_grammar::{FieldOut, data_end, expect_end, put_fields};
 use dns_names::Name;
-use dns_wire::{BinDecoder, BinEncoder, DecodeError, EmitError};
+use dns_wire::{BinDecoder, DecodeError, EmitError, Form, OctetSink};
 
 /// The start of a zone: who serves it, and how long others may keep what they copied.
 #[derive(Clone, Copy, Debug, PartialEq, Eq, Hash)]
@@ -36,18 +36,18 @@ impl SOA {
     pub(crate) fn read_with(
         decoder: &mut BinDecoder<'_>,
         length: u16,
-        jumps: &mut [u16],
+        cache: &mut [u16],
     ) -> Result<SOA, DecodeError>
-        requires jumps { AreJumps (octets decoder.old) jumps.old }
+        requires cache { IsPointerCache (octets decoder.old) cache.old }
         ensures exact { Reads soa_values result decoder.old decoder.new
             (one_type_data_at soa_row (octets decoder.old) (place decoder.old) length) }
-        ensures jumps { AreJumps (octets decoder.old) jumps.new }
+        ensures cache { IsPointerCache (octets decoder.old) cache.new }
     {
         let start = decoder.index();
         let end = data_end(decoder, length)?;
         let mut reader = *decoder;
-        let mname = Name::read_with(&mut reader, end, jumps)?;
-        let rname = Name::read_with(&mut reader, end, jumps)?;
+        let mname = Name::read_with(&mut reader, end, cache)?;
+        let rname = Name::read_with(&mut reader, end, cache)?;
         let serial = reader.read_u32_within(end)?;
         let refresh = reader.read_u32_within(end)?;
         let retry = reader.read_u32_within(end)?;
@@ -67,15 +67,16 @@ impl SOA {
     }
 
     /// Writes the data.
-    pub(crate) fn emit(&self, encoder: &mut BinEncoder) -> Result<(), EmitError>
-        ensures { Writes result encoder.old encoder.new
-            (fields_octets encoder.old.canonical_form soa_row (soa_values self.now)) }
+    pub(crate) fn put<S: OctetSink>(&self, form: Form, sink: &mut S) -> Result<(), EmitError>
+        ensures { Puts S.has_taken result sink.old sink.new
+            (fields_octets form.canonical_form soa_row (soa_values self.now)) }
     {
-        emit_fields(
-            encoder,
+        put_fields(
+            sink,
+            form,
             &[
-                FieldOut::Lowered(&self.mname),
-                FieldOut::Lowered(&self.rname),
+                FieldOut::LoweredName(&self.mname),
+                FieldOut::LoweredName(&self.rname),
                 FieldOut::U32(self.serial),
                 FieldOut::U32(self.refresh),
                 FieldOut::U32(self.retry),

@@ -1,15 +1,15 @@
 //! A server of a service (RFC 2782).
 ghost use Rattle.dns_wire.specs.Reading.{octets, place, Reads};
-ghost use Rattle.dns_wire.specs.Writing.{Writes};
-ghost use Rattle.dns_names.specs.Jumps.{AreJumps};
+ghost use Rattle.dns_wire.specs.Sinks.{Puts};
+ghost use Rattle.dns_names.specs.PointerCache.{IsPointerCache};
 ghost use Rattle.dns_grammar.specs.Fields.{fields_octets};
 ghost use Rattle.dns_grammar.specs.RecordData.{one_type_data_at};
 ghost use Rattle.dns_rdata.specs.PlainData.{srv_values};
 ghost use Rattle.dns_rdata.specs.RDataTable.{srv_row};
 
-use dns_grammar::{FieldOut, data_end, emit_fields, expect_end};
+use dns_grammar::{FieldOut, data_end, expect_end, put_fields};
 use dns_names::Name;
-use dns_wire::{BinDecoder, BinEncoder, DecodeError, EmitError};
+use dns_wire::{BinDecoder, DecodeError, EmitError, Form, OctetSink};
 
 /// A server of a service.
 #[derive(Clone, Copy, Debug, PartialEq, Eq, Hash)]
@@ -30,12 +30,12 @@ impl SRV {
     pub(crate) fn read_with(
         decoder: &mut BinDecoder<'_>,
         length: u16,
-        jumps: &mut [u16],
+        cache: &mut [u16],
     ) -> Result<SRV, DecodeError>
-        requires jumps { AreJumps (octets decoder.old) jumps.old }
+        requires cache { IsPointerCache (octets decoder.old) cache.old }
         ensures exact { Reads srv_values result decoder.old decoder.new
             (one_type_data_at srv_row (octets decoder.old) (place decoder.old) length) }
-        ensures jumps { AreJumps (octets decoder.old) jumps.new }
+        ensures cache { IsPointerCache (octets decoder.old) cache.new }
     {
         let start = decoder.index();
         let end = data_end(decoder, length)?;
@@ -43,7 +43,7 @@ impl SRV {
         let priority = reader.read_u16_within(end)?;
         let weight = reader.read_u16_within(end)?;
         let port = reader.read_u16_within(end)?;
-        let target = Name::read_with(&mut reader, end, jumps)?;
+        let target = Name::read_with(&mut reader, end, cache)?;
         expect_end(&reader, start, end)?;
         *decoder = reader;
         Ok(SRV {
@@ -55,17 +55,18 @@ impl SRV {
     }
 
     /// Writes the data.
-    pub(crate) fn emit(&self, encoder: &mut BinEncoder) -> Result<(), EmitError>
-        ensures { Writes result encoder.old encoder.new
-            (fields_octets encoder.old.canonical_form srv_row (srv_values self.now)) }
+    pub(crate) fn put<S: OctetSink>(&self, form: Form, sink: &mut S) -> Result<(), EmitError>
+        ensures { Puts S.has_taken result sink.old sink.new
+            (fields_octets form.canonical_form srv_row (srv_values self.now)) }
     {
-        emit_fields(
-            encoder,
+        put_fields(
+            sink,
+            form,
             &[
                 FieldOut::U16(self.priority),
                 FieldOut::U16(self.weight),
                 FieldOut::U16(self.port),
-                FieldOut::Lowered(&self.target),
+                FieldOut::LoweredName(&self.target),
             ],
         )
     }

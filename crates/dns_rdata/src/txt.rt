@@ -1,14 +1,14 @@
 //! Texts (RFC 1035 3.3.14).
 ghost use Rattle.std.specs.Prelude.{◌≡◌, ◌-◌, ◌≤◌, length, IfOk};
 ghost use Rattle.dns_wire.specs.Reading.{octets, place, GivesUnless, ReadsUnless};
-ghost use Rattle.dns_wire.specs.Writing.{Writes};
+ghost use Rattle.dns_wire.specs.Sinks.{Puts};
 ghost use Rattle.dns_grammar.specs.Fields.{fields_octets, strings_at};
 ghost use Rattle.dns_grammar.specs.RecordData.{one_type_data_at};
 ghost use Rattle.dns_rdata.specs.PlainData.{txt_strings, txt_values};
 ghost use Rattle.dns_rdata.specs.RDataTable.{txt_row};
 
-use dns_grammar::{FieldOut, data_end, emit_fields};
-use dns_wire::{BinDecoder, BinEncoder, DecodeError, EmitError, Octets, OutOfMemory};
+use dns_grammar::{FieldOut, data_end, put_fields};
+use dns_wire::{BinDecoder, DecodeError, EmitError, Form, OctetSink, Octets, OutOfMemory};
 use std::alloc::Global;
 
 /// Strings of at most 255 octets each, whatever their octets mean. A contract sees them, by `txt_strings`.
@@ -72,10 +72,10 @@ impl TXT {
     }
 
     /// Writes the data.
-    pub(crate) fn emit(&self, encoder: &mut BinEncoder) -> Result<(), EmitError>
-        ensures { Writes result encoder.old encoder.new
-            (fields_octets encoder.old.canonical_form txt_row (txt_values self.now)) }
+    pub(crate) fn put<S: OctetSink>(&self, form: Form, sink: &mut S) -> Result<(), EmitError>
+        ensures { Puts S.has_taken result sink.old sink.new
+            (fields_octets form.canonical_form txt_row (txt_values self.now)) }
     {
-        emit_fields(encoder, &[FieldOut::Strings(self.strings.as_slice())])
+        put_fields(sink, form, &[FieldOut::Strings(self.strings.as_slice())])
     }
 }

@@ -7,7 +7,7 @@ use Rattle.dns_lexer.specs.ErrorTexts.{lex_error_text}
 use Rattle.sec_anchor.specs.ErrorTexts.{parse_error_text}
 use Rattle.sec_sigdata.specs.ErrorTexts.{dns_sec_error_text}
 use Rattle.sec_sign.specs.ErrorTexts.{tbs_error_text, sign_error_text, verify_rrsig_error_text}
-use Rattle.sec_places.specs.ErrorTexts.{input_error_text}
+use Rattle.rrsig_input.specs.ErrorTexts.{input_error_text}
 use Rattle.sec_tsig.specs.ErrorTexts.{request_error_text, tsig_sign_error_text}
 use Rattle.dns_wire.specs.declared.error.NameError.{NameError}
 use Rattle.dns_wire.specs.declared.error.DecodeError.{DecodeError}
@@ -32,7 +32,7 @@ use Rattle.sec_sign.specs.declared.sign_error.SignError.{SignError}
 use Rattle.sec_sign.specs.declared.sign_error.SignError.TheVariants as sign_causes
 use Rattle.sec_sign.specs.declared.verify_error.VerifyRrsigError.{VerifyRrsigError}
 use Rattle.sec_sign.specs.declared.verify_error.VerifyRrsigError.TheVariants as verify_causes
-use Rattle.sec_places.specs.declared.input_error.InputError.{InputError}
+use Rattle.rrsig_input.specs.declared.input_error.InputError.{InputError}
 use Rattle.sec_tsig.specs.declared.request_error.RequestError.{RequestError}
 use Rattle.sec_tsig.specs.declared.sign_error.TsigSignError.{TsigSignError}
 use Rattle.sec_tsig.specs.declared.sign_error.TsigSignError.TheVariants as response_causes

@@ -11,10 +11,10 @@ ghost use Rattle.dns_rows.specs.Refusals.{response_refusal, answer_text};
 
 use dns_lexer::LexError;
 use dns_wire::{DecodeError, EmitError, NameError, OutOfMemory};
+use rrsig_input::InputError;
 use sec_anchor::ParseError;
 use sec_codes::KeyError;
 use sec_keydata::{KeyDataError, TokenError};
-use sec_places::InputError;
 use sec_sigdata::DnsSecError;
 use sec_sign::{SignError, TbsError, VerifyRrsigError};
 use sec_tsig::{RequestError, TsigSignError};

@@ -15,8 +15,8 @@ use crate::codes::RecordType;
 use crate::type_blocks::{TypeBlock, has_type, is_ascending, is_bitmap};
 use crate::type_form::{ascending_octets, octets_of_types};
 use dns_wire::{
-    BinDecoder, BinEncodable, BinEncoder, DecodeError, EmitError, Octets, OutOfMemory,
-    RecordDataDecodable,
+    BinDecoder, BinEncodable, DecodeError, EmitError, Form, OctetSink, Octets, OutOfMemory,
+    Putting, RecordDataDecodable,
 };
 use std::alloc::Global;
 use std::hash::{Hash, Hasher};
@@ -216,15 +216,18 @@ impl<'r> RecordDataDecodable<'r> for RecordTypeSet {
     }
 }
 
-impl BinEncodable for RecordTypeSet {
+impl Putting for RecordTypeSet {
     ghost use Rattle.std.specs.Prelude.{Ok};
 
     ghost written = { λ canonical_form name_encoding set. Ok set };
 
-    fn emit(&self, encoder: &mut BinEncoder) -> Result<(), EmitError> {
-        encoder.emit_vec(self.octets.as_slice())
+    fn put<S: OctetSink>(&self, form: Form, sink: &mut S) -> Result<(), EmitError> {
+        sink.take(self.octets.as_slice());
+        Ok(())
     }
 }
+
+impl BinEncodable for RecordTypeSet {}
 
 impl PartialEq for RecordTypeSet {
     ghost eq = { pointwise nat_eq };

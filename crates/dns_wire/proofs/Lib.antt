@@ -1,1 +1,4 @@
 pub mod FieldLaws
+pub mod PutLaws
+pub mod Rooms
+pub mod SinkSteps

@@ -1,5 +1,10 @@
+pub mod Growing
 pub mod Lookup
 pub mod Octets
 pub mod Reading
+pub mod Rooms
+pub mod SinkViews
+pub mod Sinks
 pub mod Writing
 pub mod ErrorTexts
+pub mod Joining

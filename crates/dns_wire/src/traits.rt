@@ -4,19 +4,13 @@ ghost use Rattle.dns_wire.specs.Writing.{Writes};
 ghost use Rattle.dns_wire.specs.Reading.{octets, place};
 
 use crate::decoder::BinDecoder;
-use crate::encoder::{BinEncoder, NameEncoding};
+use crate::encoder::BinEncoder;
 use crate::error::{DecodeError, EmitError};
+use crate::putting::{Putting, emit_put};
 use std::alloc::Global;
 
 /// A value that is written as octets.
-pub trait BinEncodable {
-    ghost use Rattle.std.specs.Prelude.{Bool, ℕ, List, Result};
-    ghost use Rattle.dns_wire.specs.declared.encoder.NameEncoding.{NameEncoding};
-    ghost use Rattle.dns_wire.specs.declared.error.EmitError.{EmitError};
-
-    // the octets of the value in canonical form or not, under a name encoding, or the cause for which there are none
-    ghost written: { Bool → NameEncoding → Self → Result (List ℕ) EmitError };
-
+pub trait BinEncodable: Putting {
     /// Writes the octets at the encoder's end. A refused call leaves the encoder as it was.
     ///
     /// # Errors
@@ -24,7 +18,10 @@ pub trait BinEncodable {
     /// The cause for which there are no octets, or `OutOfMemory`.
     fn emit(&self, encoder: &mut BinEncoder) -> Result<(), EmitError>
         ensures { Writes result encoder.old encoder.new
-            (written encoder.old.canonical_form encoder.old.name_encoding self.now) };
+            (Self.written encoder.old.canonical_form encoder.old.name_encoding self.now) }
+    {
+        emit_put(self, encoder)
+    }
 }
 
 /// A value that is read from octets.

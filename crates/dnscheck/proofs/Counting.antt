@@ -10,7 +10,7 @@ use Rattle.sec_anchor.specs.Entries.{EntryData}
 use Rattle.sec_codes.specs.declared.proof.Proof.{Proof}
 use Rattle.sec_codes.specs.declared.proof.Proof.TheVariants.{Secure, Bogus, Insecure, Indeterminate}
 use Rattle.sec_sign.specs.Verifying.{Relation}
-use Rattle.sec_tsig.specs.Verdict.{Chain}
+use Rattle.sec_tsig.specs.Verdict.{TsigChain}
 use Rattle.sec_check.specs.declared.set_proof.SetProof.{SetProof}
 use Rattle.sec_check.specs.Reports.{Answered, CheckerData}
 use Rattle.dnscheck.specs.declared.counts.Counts.{Counts}
@@ -66,14 +66,14 @@ pub record HasCounted (accepts : Relation) (answers : List Answer) (first : Chec
       ≡ with_answers no_counts (verdicts accepts first.entries first.chain answers)
 
 module _ (accepts : Relation) (entries : List EntryData) where
-  one_answer : (counts : Counts) (chain : Chain) (answer : Answer) (answers : List Answer)
+  one_answer : (counts : Counts) (chain : TsigChain) (answer : Answer) (answers : List Answer)
       → with_answers counts (verdicts accepts entries chain (answer ∷ answers))
       ≡ with_answers (with_answer counts (answer_verdict accepts entries chain answer))
       (verdicts accepts entries (next_chain chain (answer_verdict accepts entries chain answer)) answers)
   unfolding with_answers verdicts
   one_answer counts chain answer answers = refl
 
-  no_answer : (counts : Counts) (chain : Chain) → with_answers counts (verdicts accepts entries chain []) ≡ counts
+  no_answer : (counts : Counts) (chain : TsigChain) → with_answers counts (verdicts accepts entries chain []) ≡ counts
   unfolding with_answers verdicts
   no_answer counts chain = refl
 
@@ -148,7 +148,7 @@ none_refused counts (Err cause ∷ found) =
     ∙ ap (λ (b : Bool). b && list_all is_ok found) (not_none counts.refused)
     ∙ sym (and_false (nat_eq counts.refused 0))
 
-by_signed : (accepts : Relation) (entries : List EntryData) (answers : List Answer) (begun : Option (List ℕ × Chain))
+by_signed : (accepts : Relation) (entries : List EntryData) (answers : List Answer) (begun : Option (List ℕ × TsigChain))
     → IsSome begun → signed_status accepts entries answers begun
     ≡ (if nat_eq (with_answers no_counts (signed_found accepts entries answers begun)).refused 0 then Accepted else Refused)
 by_signed accepts entries answers (Some begun) is =

@@ -6,7 +6,7 @@ use Rattle.dns_io.specs.declared.status.Status.TheVariants.{Usage, ReadFault, To
 use Rattle.dns_io.specs.declared.status.Status.TheVariants.{ScriptFault, Refused, Accepted}
 use Rattle.sec_anchor.specs.Entries.{EntryData}
 use Rattle.sec_sign.specs.Verifying.{Relation}
-use Rattle.sec_tsig.specs.Verdict.{Chain}
+use Rattle.sec_tsig.specs.Verdict.{TsigChain}
 use Rattle.sec_check.specs.Reports.{Answered}
 use Rattle.dns_demo.specs.Demo.{demo_answers, demo_entries, demo_request, demo_signer, demo_time}
 use Rattle.dnscheck.specs.declared.counts.Counts.{Counts}
@@ -28,7 +28,7 @@ demo_script count = record {
 }
 
 -- what the answers of a script come to for the chain that its signed request begins, where there is one
-abbrev pub signed_found : Relation → List EntryData → List Answer → Option (List ℕ × Chain) → List Answered
+abbrev pub signed_found : Relation → List EntryData → List Answer → Option (List ℕ × TsigChain) → List Answered
 signed_found accepts entries answers (Some begun) = verdicts accepts entries begun.1 answers
 signed_found accepts entries answers None = []
 

@@ -4,11 +4,12 @@ use Rattle.std.proofs.Common.{Result, Ok, Err, refl, sym, ap, ◌∙◌, append-
 use Rattle.std.specs.List.{AllByRecursion}
 use Rattle.dns_wire.specs.declared.encoder.NameEncoding.TheVariants.{Uncompressed}
 use Rattle.dns_wire.specs.declared.error.EmitError.{EmitError}
-use Rattle.dns_grammar.specs.Fields.{Field, joined, each_octets}
+use Rattle.dns_wire.specs.Joining.{joined, each_octets}
+use Rattle.dns_grammar.specs.Fields.{Field}
 use Rattle.dns_grammar.specs.RecordData.{rdata_octets}
 use Rattle.dns_grammar.specs.Messages.{ResourceRecord}
 use Rattle.dns_grammar.specs.MessageWriting.{header_octets, query_octets, record_octets, message_octets}
-use Rattle.dns_grammar.proofs.FieldOutLaws.{joined_nil, joined_more}
+use Rattle.dns_wire.proofs.PutLaws.{joined_nil, joined_more}
 use Rattle.dns_rdata.specs.declared.rdata.RData.{RData}
 use Rattle.dns_rdata.specs.RData.{rdata_values}
 use Rattle.dns_rdata.specs.RDataTable.{rdata_table}
@@ -17,7 +18,8 @@ use Rattle.sec_sigdata.specs.declared.tsig.TSIG.{TSIG}
 use Rattle.dns_message.specs.declared.message.Message.{Message}
 use Rattle.dns_message.specs.declared.record.Record.{Record}
 use Rattle.dns_message.specs.MessageWriting as own
-use Rattle.dns_message.specs.MessageWriting.{written_record, written_tsig_record, option_octets}
+use Rattle.dns_wire.specs.Joining.{option_octets}
+use Rattle.dns_message.specs.MessageWriting.{written_record, written_tsig_record}
 use Rattle.dns_message.specs.OwnedMessages.{IsReadRecord, IsReadMessage}
 use Rattle.dns_message.specs.Parts.{record_view, tsig_record_view, message_parts, and_last, whole}
 use Rattle.dns_message.specs.Views.{query_view}

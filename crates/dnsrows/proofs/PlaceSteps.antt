@@ -11,8 +11,8 @@ use Rattle.dns_rdata.specs.declared.rdata.RData.{RData}
 use Rattle.dns_message.specs.declared.record.Record.{Record}
 use Rattle.dns_message.specs.Parts.{record_view}
 use Rattle.dns_message.specs.declared.section.Section.TheVariants as sections
-use Rattle.dns_places.specs.declared.record_place.RecordPlace.{RecordPlace}
-use Rattle.dns_places.specs.Places.{message_places, place_of, section_places}
+use Rattle.message_walk.specs.declared.record_place.RecordPlace.{RecordPlace}
+use Rattle.message_walk.specs.Places.{message_places, place_of, section_places}
 use Rattle.dnsrows.specs.Covering.{placed_line}
 use Rattle.dnsrows.specs.Messages.{AreAnswersOf}
 use Rattle.dnsrows.proofs.ListSteps.{gathered_more, split}

@@ -12,7 +12,7 @@ use Rattle.dns_message.specs.declared.section.Section.TheVariants as sections
 use Rattle.sec_sigdata.specs.Signatures.{SigData}
 use Rattle.sec_sign.specs.MessageSets.{set_octets}
 use Rattle.sec_sign.specs.Signed.{signed_of}
-use Rattle.sec_places.specs.SignedSets.{signed_input}
+use Rattle.rrsig_input.specs.SignedSets.{signed_input}
 use Rattle.dns_rows.specs.declared.refusal.Refusal.{Refusal}
 use Rattle.dns_rows.specs.declared.refusal.Refusal.TheVariants.{NoCall}
 use Rattle.dns_rows.specs.Refusals.{answer_text, input_refusal, tbs_refusal, with_refusal}

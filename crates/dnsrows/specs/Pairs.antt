@@ -14,7 +14,7 @@ use Rattle.sec_sign.specs.declared.pair.PairVerdict.{PairVerdict}
 use Rattle.sec_sign.specs.declared.pair.PairVerdict.TheVariants.{NotMet, NotAccepted, Authentic}
 use Rattle.sec_sign.specs.MessageSets.{set_octets}
 use Rattle.sec_sign.specs.Pairs.{SetName, ZoneKey, rrsig_verdict}
-use Rattle.sec_sign.specs.Signed.{shown}
+use Rattle.sec_sign.specs.Signed.{signed_owner}
 use Rattle.dns_rows.specs.declared.refusal.Refusal.{Refusal}
 use Rattle.dns_rows.specs.declared.refusal.Refusal.TheVariants.{NoCall}
 use Rattle.dns_rows.specs.Refusals.{tbs_refusal, with_refusal}
@@ -82,7 +82,7 @@ owner_answer others = do
   w ← ok_or (two_words others) NoCall
   name ← name_in w.0
   labels ← number_in (2 ^ 8) w.1
-  owner ← with_refusal tbs_refusal (shown name labels)
+  owner ← with_refusal tbs_refusal (signed_owner name labels)
   Ok (name_text owner)
 
 -- `keep TIME HEX`

@@ -39,8 +39,8 @@ response_in word = do
   Ok octets
 
 -- a message with a TSIG record after it, or why there is none
-abbrev pub with_tsig : List ℕ → TsigRecord → Result (List ℕ) Refusal
-with_tsig octets tsig = do
+abbrev pub followed_by_tsig : List ℕ → TsigRecord → Result (List ℕ) Refusal
+followed_by_tsig octets tsig = do
   whole ← with_refusal emit_refusal (with_record octets tsig)
   Ok (hex_word whole)
 
@@ -48,7 +48,7 @@ with_tsig octets tsig = do
 abbrev pub signed_response : List ℕ → Result TsigRecord TsigSignError → Result (List ℕ) Refusal
 signed_response octets signed = do
   tsig ← with_refusal response_refusal signed
-  with_tsig octets tsig
+  followed_by_tsig octets tsig
 
 -- ---- calls
 

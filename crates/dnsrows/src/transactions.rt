@@ -10,7 +10,7 @@ ghost use Rattle.sec_tsig.specs.Tsig.{tsig_record};
 ghost use Rattle.dns_rows.specs.declared.refusal.Refusal.TheVariants.{OutOfMemory as no_memory};
 ghost use Rattle.dns_rows.specs.Refusals.{request_refusal, with_refusal};
 ghost use Rattle.dnsrows.specs.Messages.{is_message};
-ghost use Rattle.dnsrows.specs.Transactions.{signer_in, time_in, response_in, with_tsig, request_answer};
+ghost use Rattle.dnsrows.specs.Transactions.{signer_in, time_in, response_in, followed_by_tsig, request_answer};
 ghost use Rattle.dnsrows.specs.Transactions.{respond_answer, later_answer, bad_time_answer, bad_signature_answer};
 ghost use Rattle.dnsrows.specs.Transactions.{unknown_key_answer, transaction_calls};
 
@@ -86,9 +86,13 @@ fn message_id(octets: &[u8]) -> u16
 }
 
 /// A message with a TSIG record after it.
-fn with_tsig(alloc: Global, mut octets: Vec<u8>, tsig: &Record<TSIG>) -> Result<String, Refusal>
+fn followed_by_tsig(
+    alloc: Global,
+    mut octets: Vec<u8>,
+    tsig: &Record<TSIG>,
+) -> Result<String, Refusal>
     requires { 12 ≤ length octets.items }
-    ensures { GivesUnless no_memory (λ text. string_bytes text) result (with_tsig octets.items (tsig_record tsig.now)) }
+    ensures { GivesUnless no_memory (λ text. string_bytes text) result (followed_by_tsig octets.items (tsig_record tsig.now)) }
 {
     append_tsig(&mut octets, tsig)?;
     Ok(HexWord(&octets).to_string(alloc)?)
@@ -139,7 +143,7 @@ fn respond(alloc: Global, rest: &[u8]) -> Result<String, Refusal>
     let response = response_in(alloc, response)?;
     let context = TSigResponseContext::new(message_id(&response), time, signer, mac, error);
     let tsig = context.sign(&response)?;
-    with_tsig(alloc, response, &tsig)
+    followed_by_tsig(alloc, response, &tsig)
 }
 
 /// `respond-later ALGORITHM KEY NAME FUDGE TIME MAC HEX`: a later response, after the one of this MAC, signed.
@@ -153,7 +157,7 @@ fn respond_later(alloc: Global, rest: &[u8]) -> Result<String, Refusal>
     let mac = octets_in(alloc, mac)?;
     let response = response_in(alloc, response)?;
     let tsig = signer.sign_later(&mac, &response, message_id(&response), time)?;
-    with_tsig(alloc, response, &tsig)
+    followed_by_tsig(alloc, response, &tsig)
 }
 
 /// `respond-bad-time ALGORITHM KEY NAME FUDGE TIME MAC SERVERTIME HEX`: the response to a request of this time and this
@@ -171,7 +175,7 @@ fn respond_bad_time(alloc: Global, rest: &[u8]) -> Result<String, Refusal>
     let id = message_id(&response);
     let context = TSigResponseContext::bad_time(id, time, server_time, signer, mac);
     let tsig = context.sign(&response)?;
-    with_tsig(alloc, response, &tsig)
+    followed_by_tsig(alloc, response, &tsig)
 }
 
 /// `respond-bad-signature ALGORITHM KEY NAME FUDGE TIME HEX`: the response to a request whose MAC was wrong.
@@ -185,7 +189,7 @@ fn respond_bad_signature(alloc: Global, rest: &[u8]) -> Result<String, Refusal>
     let response = response_in(alloc, response)?;
     let context = TSigResponseContext::bad_signature(message_id(&response), time, signer);
     let tsig = context.sign(&response)?;
-    with_tsig(alloc, response, &tsig)
+    followed_by_tsig(alloc, response, &tsig)
 }
 
 /// `respond-unknown-key NAME TIME HEX`: the response to a request under the unknown key of this name.
@@ -198,7 +202,7 @@ fn respond_unknown_key(alloc: Global, rest: &[u8]) -> Result<String, Refusal>
     let response = response_in(alloc, response)?;
     let context = TSigResponseContext::unknown_key(alloc, message_id(&response), time, name);
     let tsig = context.sign(&response)?;
-    with_tsig(alloc, response, &tsig)
+    followed_by_tsig(alloc, response, &tsig)
 }
 
 /// What the call of this word answers.

@@ -20,7 +20,7 @@ use Rattle.sec_anchor.specs.Entries.{EntryData, entry_data}
 use Rattle.sec_sign.specs.declared.pair.PairVerdict.{PairVerdict}
 use Rattle.sec_sign.specs.declared.pair.PairVerdict.TheVariants.{NotMet}
 use Rattle.sec_sign.specs.Pairs.{is_tag}
-use Rattle.sec_check.specs.declared.key_name.KeyName.{KeyName}
+use Rattle.sec_check.specs.declared.key_lookup.KeyLookup.{KeyLookup}
 use Rattle.sec_check.specs.Indexes.{is_named, key_name_cmp, key_tagged, name_of_key, positions_from, strongest_at}
 use Rattle.sec_check.specs.Indexes.{values_at, verdict_at}
 use Rattle.sec_check.specs.Marks.{stronger, strongest}
@@ -42,11 +42,11 @@ in_order false false c true = refl
 in_order false false c false = refl
 
 -- whether a key has a name
-abbrev has_name : KeyName → Option KeyName → Bool
+abbrev has_name : KeyLookup → Option KeyLookup → Bool
 has_name q None = false
 has_name q (Some name) = is_eq (key_name_cmp name q)
 
-names_equal : (name q : KeyName) → is_eq (key_name_cmp name q)
+names_equal : (name q : KeyLookup) → is_eq (key_name_cmp name q)
     ≡ (nat_eq q.dns_class name.dns_class
     && (nat_eq q.algorithm name.algorithm && (same q.owner name.owner && nat_eq name.key_tag q.key_tag)))
 names_equal name q =
@@ -60,7 +60,7 @@ names_equal name q =
     ∙ in_order (nat_eq q.dns_class name.dns_class) (nat_eq q.algorithm name.algorithm) (same q.owner name.owner)
     (nat_eq name.key_tag q.key_tag)
 
-named : (q : KeyName) (entry : EntryData) → has_name q (name_of_key entry) ≡ is_named q entry
+named : (q : KeyLookup) (entry : EntryData) → has_name q (name_of_key entry) ≡ is_named q entry
 named q entry = at (dnskey_tag entry.dnskey)
   where
     at : (tag : Result ℕ KeyDataError) → has_name q (key_tagged entry tag)
@@ -82,13 +82,13 @@ named q entry = at (dnskey_tag entry.dnskey)
 -- ---- one more entry
 
 -- the positions found so far, before those of the entries from the i-th on, are those of all
-pub record HasFound (index : BTreeMap KeyName (Vec ℕ)) (i : ℕ) (entries : List Entry) : Type 0 where
-  pub all : (q : KeyName) → values_at key_name_cmp index q
+pub record HasFound (index : BTreeMap KeyLookup (Vec ℕ)) (i : ℕ) (entries : List Entry) : Type 0 where
+  pub all : (q : KeyLookup) → values_at key_name_cmp index q
       ++ positions_from i (is_named q) (map entry_data (drop i entries))
       ≡ positions_from 0 (is_named q) (map entry_data entries)
 
-pub found_none : (entries : List Entry) (index : BTreeMap KeyName (Vec ℕ))
-    → ((q : KeyName) → values_at key_name_cmp index q ≡ []) → HasFound index 0 entries
+pub found_none : (entries : List Entry) (index : BTreeMap KeyLookup (Vec ℕ))
+    → ((q : KeyLookup) → values_at key_name_cmp index q ≡ []) → HasFound index 0 entries
 found_none entries index none = record {
   all = λ q. ap (λ (vs : List ℕ). vs ++ positions_from 0 (is_named q) (map entry_data entries)) (none q);
 }
@@ -100,9 +100,9 @@ one_more passes x xs i before true h = rw h (append_assoc before (i ∷ []) (pos
 one_more passes x xs i before false h = rw h refl
 
 module _ (entries : List Entry) (i : ℕ) (within : i < length entries) (entry : Entry)
-    (is_entry : entry ≡ get_or entries i entry) (old : BTreeMap KeyName (Vec ℕ)) (found : HasFound old i entries) where
+    (is_entry : entry ≡ get_or entries i entry) (old : BTreeMap KeyLookup (Vec ℕ)) (found : HasFound old i entries) where
   -- the same by the entry at the position, which may have the name
-  by_entry : (q : KeyName) (b : Bool) → is_named q (entry_data entry) ≡ b
+  by_entry : (q : KeyLookup) (b : Bool) → is_named q (entry_data entry) ≡ b
       → (if b then values_at key_name_cmp old q ++ i ∷ [] else values_at key_name_cmp old q)
       ++ positions_from (i + 1) (is_named q) (map entry_data (drop (i + 1) entries))
       ≡ positions_from 0 (is_named q) (map entry_data entries)
@@ -118,8 +118,8 @@ module _ (entries : List Entry) (i : ℕ) (within : i < length entries) (entry :
     all = λ q. by_entry q false (sym (named q (entry_data entry)) ∙ ap (has_name q) unnamed);
   }
 
-  pub found_named : (name : KeyName) → name_of_key (entry_data entry) ≡ Some name → (new : BTreeMap KeyName (Vec ℕ))
-      → ((q : KeyName) → values_at key_name_cmp new q
+  pub found_named : (name : KeyLookup) → name_of_key (entry_data entry) ≡ Some name → (new : BTreeMap KeyLookup (Vec ℕ))
+      → ((q : KeyLookup) → values_at key_name_cmp new q
       ≡ (if is_eq (key_name_cmp name q) then values_at key_name_cmp old q ++ i ∷ [] else values_at key_name_cmp old q))
       → HasFound new (i + 1) entries
   found_named name is_name new puts = record {

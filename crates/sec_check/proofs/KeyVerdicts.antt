@@ -13,7 +13,7 @@ use Rattle.sec_sign.specs.declared.pair.PairVerdict.TheVariants.{NotMet}
 use Rattle.sec_sign.specs.Pairs.{SetName, SignatureRecord, record_verdict, covers_set, is_within_times}
 use Rattle.sec_sign.specs.Pairs.{may_sign, names_key}
 use Rattle.sec_sign.specs.Verifying.{Relation}
-use Rattle.sec_check.specs.declared.key_name.KeyName.{KeyName}
+use Rattle.sec_check.specs.declared.key_lookup.KeyLookup.{KeyLookup}
 use Rattle.sec_check.specs.Indexes.{IsIndex, is_named, key_name_cmp, name_in_rrsig, strongest_at, values_at}
 use Rattle.sec_check.specs.Marks.{stronger, strongest, zone_key}
 use Rattle.sec_check.proofs.KeyPositions.{strongest_positions}
@@ -59,14 +59,14 @@ module _ (accepts : Relation) (moment : ℕ) (set : SetName) (octets : Result (L
   strongest_unsigned none = none_met entry_verdict (unsigned none)
 
   -- A signature that names another key meets no set by this one.
-  unnamed : (name : KeyName) → name_in_rrsig signature ≡ Some name → (entry : EntryData)
+  unnamed : (name : KeyLookup) → name_in_rrsig signature ≡ Some name → (entry : EntryData)
       → is_named name entry ≡ false → entry_verdict entry ≡ NotMet
   unnamed name is_name entry other = at signature.rrsig is_name
     where
       at : (rrsig : Option SigData) → name_in_rrsig (with_data rrsig) ≡ Some name → verdict_with rrsig entry ≡ NotMet
       at None h = cc
       at (Some sig) h =
-          let named : KeyName = record {
+          let named : KeyLookup = record {
             key_tag = sig.input.key_tag;
             algorithm = number sig.input.algorithm;
             dns_class = signature.dns_class;
@@ -74,13 +74,13 @@ module _ (accepts : Relation) (moment : ℕ) (set : SetName) (octets : Result (L
           } in
           let same_name : name ≡ named = cc in
           let names : names_key (zone_key entry) signature.dns_class sig.input ≡ false =
-          ap (λ (n : KeyName). is_named n entry) (sym same_name) ∙ other in
+          ap (λ (n : KeyLookup). is_named n entry) (sym same_name) ∙ other in
           rw (third_fails (covers_set set signature.owner signature.dns_class sig.input)
           (is_within_times sig.input moment) (names_key (zone_key entry) signature.dns_class sig.input)
           (may_sign entry.name entry.dnskey set.name) names) refl
 
-  pub strongest_named : (entries : List EntryData) (index : BTreeMap KeyName (Vec ℕ)) → IsIndex index entries
-      → (name : KeyName) → name_in_rrsig signature ≡ Some name → (positions : List ℕ)
+  pub strongest_named : (entries : List EntryData) (index : BTreeMap KeyLookup (Vec ℕ)) → IsIndex index entries
+      → (name : KeyLookup) → name_in_rrsig signature ≡ Some name → (positions : List ℕ)
       → positions ≡ values_at key_name_cmp index name
       → strongest_at (λ entry. record_verdict accepts moment set (zone_key entry) octets signature) entries positions
       ≡ strongest (map (λ entry. record_verdict accepts moment set (zone_key entry) octets signature) entries)

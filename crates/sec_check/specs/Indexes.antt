@@ -13,7 +13,7 @@ use Rattle.sec_anchor.specs.Entries.{EntryData}
 use Rattle.sec_sign.specs.declared.pair.PairVerdict.{PairVerdict}
 use Rattle.sec_sign.specs.declared.pair.PairVerdict.TheVariants.{NotMet}
 use Rattle.sec_sign.specs.Pairs.{SignatureRecord, is_tag}
-use Rattle.sec_check.specs.declared.key_name.KeyName.{KeyName}
+use Rattle.sec_check.specs.declared.key_lookup.KeyLookup.{KeyLookup}
 use Rattle.sec_check.specs.Marks.{strongest}
 
 -- ---- several values under a key
@@ -35,14 +35,14 @@ positions_from n passes (x ∷ xs) =
 
 -- ---- the names of keys
 
-abbrev pub key_name_cmp : KeyName → KeyName → Ordering
+abbrev pub key_name_cmp : KeyLookup → KeyLookup → Ordering
 key_name_cmp x y =
     ordering_then (nat_cmp x.key_tag y.key_tag)
     (ordering_then (nat_cmp x.algorithm y.algorithm)
     (ordering_then (nat_cmp x.dns_class y.dns_class) (name_cmp x.owner y.owner)))
 
 -- the name of an entry's key, which has this tag
-abbrev pub key_tagged : EntryData → Result ℕ KeyDataError → Option KeyName
+abbrev pub key_tagged : EntryData → Result ℕ KeyDataError → Option KeyLookup
 key_tagged entry (Err _) = None
 key_tagged entry (Ok tag) = Some record {
   key_tag = tag;
@@ -52,11 +52,11 @@ key_tagged entry (Ok tag) = Some record {
 }
 
 -- the name of an entry's key, which has none where it is too long to have a tag
-abbrev pub name_of_key : EntryData → Option KeyName
+abbrev pub name_of_key : EntryData → Option KeyLookup
 name_of_key entry = key_tagged entry (dnskey_tag entry.dnskey)
 
 -- the name of the key of a signature, if the record is one
-abbrev pub name_in_rrsig : SignatureRecord → Option KeyName
+abbrev pub name_in_rrsig : SignatureRecord → Option KeyLookup
 name_in_rrsig signature = option_map (λ sig. record {
   key_tag = sig.input.key_tag;
   algorithm = number sig.input.algorithm;
@@ -65,15 +65,15 @@ name_in_rrsig signature = option_map (λ sig. record {
 }) signature.rrsig
 
 -- whether a name is that of an entry's key
-abbrev pub is_named : KeyName → EntryData → Bool
+abbrev pub is_named : KeyLookup → EntryData → Bool
 is_named name entry =
     nat_eq name.dns_class entry.dns_class
     && (nat_eq name.algorithm (number entry.dnskey.public_key.algorithm)
     && (same name.owner entry.name && is_tag (dnskey_tag entry.dnskey) name.key_tag))
 
 -- an index has under each name the positions of the entries whose keys have it, in order
-pub record IsIndex (index : BTreeMap KeyName (Vec ℕ)) (entries : List EntryData) : Type 0 where
-  pub all : (q : KeyName) → values_at key_name_cmp index q ≡ positions_from 0 (is_named q) entries
+pub record IsIndex (index : BTreeMap KeyLookup (Vec ℕ)) (entries : List EntryData) : Type 0 where
+  pub all : (q : KeyLookup) → values_at key_name_cmp index q ≡ positions_from 0 (is_named q) entries
 
 -- ---- verdicts by positions
 

@@ -10,8 +10,8 @@ use Rattle.sec_sign.specs.Pairs.{SetName}
 use Rattle.sec_sign.specs.Verifying.{Relation}
 use Rattle.sec_tsig.specs.declared.verify_error.VerifyError.{VerifyError}
 use Rattle.sec_tsig.specs.declared.verify_error.VerifyError.TheVariants as causes
-use Rattle.sec_tsig.specs.Told.{told_by}
-use Rattle.sec_tsig.specs.Verdict.{Chain, verdict}
+use Rattle.sec_tsig.specs.Notices.{notice_by}
+use Rattle.sec_tsig.specs.Verdict.{TsigChain, verdict}
 use Rattle.dns_message.specs.declared.section.Section.{Section}
 use Rattle.dns_message.specs.declared.section.Section.TheVariants as sections
 use Rattle.sec_check.specs.declared.set_proof.SetProof.{SetProof}
@@ -53,8 +53,8 @@ pub record ReportData : Type 0 where
 abbrev pub report_of : Trust → Bool → Message → ReportData
 report_of trust first message = record {
   sets = set_proofs trust (parts_of message);
-  tsig_error = (told_by first message).tsig_error;
-  server_time = (told_by first message).server_time;
+  tsig_error = (notice_by first message).tsig_error;
+  server_time = (notice_by first message).server_time;
 }
 
 -- the report of octets, by what reading them gives; a report of nothing where no message stands in them
@@ -65,9 +65,9 @@ report_read trust first (Err _) = record { sets = []; tsig_error = 0; server_tim
 -- What an answer comes to for a chain: the report and the chain behind it, or the cause for which it is refused, as the
 -- verdict says.
 abbrev pub Answered : Type 0
-Answered = Result (ReportData × Chain) VerifyError
+Answered = Result (ReportData × TsigChain) VerifyError
 
-abbrev pub answered : Trust → Chain → List ℕ → Answered
+abbrev pub answered : Trust → TsigChain → List ℕ → Answered
 answered trust chain octets =
     verdict chain octets >>= λ next. Ok (report_read trust chain.first (message_at rdata_table octets), next)
 
@@ -75,7 +75,7 @@ answered trust chain octets =
 
 -- what a contract sees of a checker: the chain of the answers accepted so far, and the trusted entries
 pub record CheckerData : Type 0 where
-  pub chain : Chain
+  pub chain : TsigChain
   pub entries : List EntryData
 
 -- what a checker trusts under a scheme at a moment

@@ -6,7 +6,7 @@ use crate::trusted_keys::TrustedKeys;
 use dns_wire::OutOfMemory;
 use sec_anchor::Entry;
 use sec_codes::SignatureScheme;
-use sec_tsig::{ChainStep, TSigVerifier, VerifyError};
+use sec_tsig::{TSigVerifier, TsigStep, VerifyError};
 use std::alloc::Global;
 use std::marker::Model;
 
@@ -32,7 +32,7 @@ impl Checker {
     ghost use Rattle.dns_grammar.specs.Messages.{Message as message_of_octets, message_at};
     ghost use Rattle.dns_rdata.specs.RDataTable.{rdata_table};
     ghost use Rattle.sec_anchor.specs.Entries.{entry_data};
-    ghost use Rattle.sec_tsig.specs.Told.{step_told, told_by};
+    ghost use Rattle.sec_tsig.specs.Notices.{step_notice, notice_by};
     ghost use Rattle.sec_check.specs.Reports.{AnswersAs, answered, report_of, trust_of};
 
     /// A checker of the answers that the verifier is for, with these trusted entries. Entries that aren't well formed
@@ -53,11 +53,11 @@ impl Checker {
         scheme: &S,
         moment: u32,
         octets: &[u8],
-        step: &ChainStep,
+        step: &TsigStep,
     ) -> Result<Report, OutOfMemory>
         ensures { IfOk result (λ report. (message : message_of_octets) (e : ℕ)
             → message_at rdata_table octets.now ≡ Ok (message, e)
-            → step_told step.now ≡ told_by self.now.chain.first message
+            → step_notice step.now ≡ notice_by self.now.chain.first message
             → report ≡ report_of (trust_of self.now (S.accepts scheme.now) moment) self.now.chain.first message) }
     {
         let sets = set_proofs(self.alloc, scheme, moment, &self.keys, octets)?;

@@ -2,7 +2,7 @@
 #![tactic(auto)]
 
 mod checker;
-mod key_name;
+mod key_lookup;
 pub mod laws;
 mod mark;
 mod multimap;

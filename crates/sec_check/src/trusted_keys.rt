@@ -5,7 +5,7 @@ ghost use Rattle.sec_sign.specs.Pairs.{record_verdict, signature_record};
 ghost use Rattle.sec_check.specs.Indexes.{IsIndex, strongest_at, verdict_at};
 ghost use Rattle.sec_check.specs.Marks.{stronger, strongest, zone_key};
 
-use crate::key_name::KeyName;
+use crate::key_lookup::KeyLookup;
 use crate::multimap::Multimap;
 use dns_message::Record;
 use dns_names::Name;
@@ -19,12 +19,12 @@ use std::alloc::Global;
 use std::marker::Model;
 
 /// The positions of the entries by the names of their keys.
-fn index_of(alloc: Global, entries: &[Entry]) -> Result<Multimap<KeyName, usize>, OutOfMemory>
+fn index_of(alloc: Global, entries: &[Entry]) -> Result<Multimap<KeyLookup, usize>, OutOfMemory>
     ensures { IfOk result (λ index. IsIndex index.by_key (map entry_data entries.now)) }
 {
     let mut index = Multimap::new(alloc);
     for (position, entry) in entries.iter().enumerate() {
-        if let Some(name) = KeyName::of_entry(entry) {
+        if let Some(name) = KeyLookup::of_entry(entry) {
             index.put(alloc, name, position)?;
         }
     }
@@ -116,7 +116,7 @@ fn strongest_at<S: SignatureScheme>(
 #[derive(Drop)]
 pub(crate) struct TrustedKeys {
     entries: Vec<Entry>,
-    by_name: Option<Multimap<KeyName, usize>>,
+    by_name: Option<Multimap<KeyLookup, usize>>,
 }
 
 impl Model for TrustedKeys {
@@ -180,7 +180,7 @@ impl TrustedKeys {
         let Some(by_name) = &self.by_name else {
             return Err(OutOfMemory);
         };
-        let Some(key_name) = KeyName::in_rrsig(rr) else {
+        let Some(key_lookup) = KeyLookup::in_rrsig(rr) else {
             return Ok(PairVerdict::NotMet);
         };
         strongest_at(
@@ -193,7 +193,7 @@ impl TrustedKeys {
             rr,
             set,
             &self.entries,
-            by_name.get(&key_name),
+            by_name.get(&key_lookup),
         )
     }
 }

@@ -1,7 +1,10 @@
 //! The algorithms of keys and signatures (RFC 4034 appendix A.1).
 ghost use Rattle.std.specs.Prelude.{◌≡◌, ◌∷◌, [], length, Some, Ok};
 
-use dns_wire::{BinDecodable, BinDecoder, BinEncodable, BinEncoder, DecodeError, EmitError};
+use dns_wire::{
+    BinDecodable, BinDecoder, BinEncodable, DecodeError, EmitError, Form, OctetSink, Putting,
+    put_u8,
+};
 use std::alloc::Global;
 use std::fmt;
 
@@ -146,16 +149,19 @@ impl fmt::Display for Algorithm {
     }
 }
 
-impl BinEncodable for Algorithm {
+impl Putting for Algorithm {
     ghost use Rattle.std.specs.Prelude.{Ok, ◌∷◌, []};
     ghost use Rattle.sec_codes.specs.Algorithms.{number};
 
     ghost written = { λ canonical_form name_encoding a. Ok (number a ∷ []) };
 
-    fn emit(&self, encoder: &mut BinEncoder) -> Result<(), EmitError> {
-        encoder.emit_u8(u8::from(*self))
+    fn put<S: OctetSink>(&self, form: Form, sink: &mut S) -> Result<(), EmitError> {
+        put_u8(sink, u8::from(*self));
+        Ok(())
     }
 }
+
+impl BinEncodable for Algorithm {}
 
 impl<'r> BinDecodable<'r> for Algorithm {
     ghost use Rattle.dns_wire.specs.Reading.{Reads, octets, place};

@@ -5,7 +5,7 @@ ghost use Rattle.sec_codes.specs.Algorithms.{number, algorithm_numbered};
 ghost use Rattle.sec_codes.specs.AlgorithmSets.{seven, has, members, place, set_text, IsSetOf, Adds};
 
 use crate::algorithm::Algorithm;
-use dns_wire::{BinEncodable, BinEncoder, EmitError, OutOfMemory};
+use dns_wire::{BinEncodable, EmitError, Form, OctetSink, OutOfMemory, Putting};
 use std::alloc::Global;
 use std::fmt;
 use std::marker::Model;
@@ -218,10 +218,10 @@ impl From<Algorithm> for SupportedAlgorithms {
     }
 }
 
-impl BinEncodable for SupportedAlgorithms {
+impl Putting for SupportedAlgorithms {
     ghost written = { λ canonical_form name_encoding s. Ok (map number (members s)) };
 
-    fn emit(&self, encoder: &mut BinEncoder) -> Result<(), EmitError> {
+    fn put<S: OctetSink>(&self, form: Form, sink: &mut S) -> Result<(), EmitError> {
         let mut numbers = [0; 7];
         let mut count = 0;
         'members: for algorithm in SEVEN {
@@ -230,6 +230,9 @@ impl BinEncodable for SupportedAlgorithms {
                 count += 1;
             }
         }
-        encoder.emit_vec(&numbers[..count])
+        sink.take(&numbers[..count]);
+        Ok(())
     }
 }
+
+impl BinEncodable for SupportedAlgorithms {}

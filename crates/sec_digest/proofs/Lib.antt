@@ -6,3 +6,4 @@ mod Digits
 mod Finishing
 mod Groups
 mod Lengths
+pub mod PutMacs

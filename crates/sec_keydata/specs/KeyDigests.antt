@@ -1,10 +1,11 @@
 -- The digests of keys, and the records that are made of keys.
-use Rattle.std.specs.Prelude.{ℕ, ◌&&◌, Bool, List, ◌++◌, Result, Ok}
+use Rattle.std.specs.Prelude.{ℕ, nat_eq, ◌&&◌, Bool, false, List, ◌++◌, Result, Ok, Err}
 use Rattle.std.specs.Option.{ok_or}
 use Rattle.std.specs.Result.{result_ok}
 use Rattle.std.specs.Str.{bytes_eq}
 use Rattle.dns_names.specs.Names.{wire, low}
 use Rattle.dns_wire.specs.Reading.{◌>>=◌}
+use Rattle.sec_codes.specs.Algorithms.{number}
 use Rattle.sec_codes.specs.KeyForms.{Key}
 use Rattle.sec_digest.specs.declared.digest_type.DigestType.{DigestType}
 use Rattle.sec_digest.specs.Digests.{digest, digest_number}
@@ -13,7 +14,7 @@ use Rattle.sec_keydata.specs.declared.key_data_error.KeyDataError.TheVariants.{U
 use Rattle.sec_keydata.specs.DsData.{DsData}
 use Rattle.sec_keydata.specs.DnsKeyFlags.{is_zone_key}
 use Rattle.sec_keydata.specs.DnsKeys.{DnsKeyData, dnskey_fields}
-use Rattle.sec_keydata.specs.KeyTags.{held_octets, dnskey_tag}
+use Rattle.sec_keydata.specs.KeyTags.{held_octets, dnskey_tag, is_tag}
 use Rattle.sec_keydata.specs.PublicKeyFields.{PublicKeyFields}
 
 -- The digest of an owner's DNSKEY with these fields: that of the owner's wire form in lower case, and the data. Data
@@ -44,3 +45,15 @@ abbrev pub covered : List (List ℕ) → DsData → DnsKeyData → Result Bool K
 covered owner ds key = do
   octets ← ds_digest owner key ds.digest_type
   Ok (is_zone_key key.flags && bytes_eq octets ds.digest)
+
+-- whether an answer is that the key is covered
+abbrev pub is_covered : Result Bool KeyDataError → Bool
+is_covered (Ok is) = is
+is_covered (Err _) = false
+
+-- Whether a DS identifies an owner's key (RFC 4034 5.2): it has the key's tag and algorithm, and covers it. A digest type
+-- without a hash function identifies no key (RFC 4035 5.2), and a key that no record holds is identified by none.
+abbrev pub identifies : List (List ℕ) → DsData → DnsKeyData → Bool
+identifies owner ds key =
+    is_tag (dnskey_tag key) ds.key_tag
+    && (nat_eq (number ds.algorithm) (number key.public_key.algorithm) && is_covered (covered owner ds key))

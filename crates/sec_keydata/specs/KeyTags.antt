@@ -1,10 +1,9 @@
 -- Key tags (RFC 4034 appendix B).
-use Rattle.std.specs.Prelude.{false, ℕ, ◌+◌, ◌*◌, ◌/◌, ◌%◌, ◌^◌, List, [], ◌∷◌, length, sum, nat_lt, if◌then◌else◌}
-use Rattle.std.specs.Prelude.{Result, Ok, Err}
+use Rattle.std.specs.Prelude.{Bool, false, ℕ, ◌+◌, ◌*◌, ◌/◌, ◌%◌, ◌^◌, List, [], ◌∷◌, length, sum, nat_lt, if◌then◌else◌}
+use Rattle.std.specs.Prelude.{Result, Ok, Err, nat_eq}
 use Rattle.std.specs.Result.{result_unwrap_or}
 use Rattle.dns_wire.specs.Reading.{◌>>=◌}
 use Rattle.dns_grammar.specs.Fields.{fields_octets}
-use Rattle.sec_keydata.specs.declared.dnskey_fields.TheConstants.{LONGEST_KEY}
 use Rattle.sec_keydata.specs.declared.key_data_error.KeyDataError.{KeyDataError}
 use Rattle.sec_keydata.specs.declared.key_data_error.KeyDataError.TheVariants.{DataTooLong}
 use Rattle.sec_keydata.specs.KeyRows.{dnskey_row}
@@ -39,9 +38,13 @@ key_tag octets = tag_of_sum (octet_sum octets)
 abbrev pub key_octets : PublicKeyFields → List ℕ
 key_octets key = result_unwrap_or (fields_octets false dnskey_row (public_key_values key)) []
 
--- the same where a record holds them: four octets and the key, 65,535 octets at most (RFC 1035 3.2.1)
+-- how many octets a key has at most: with four others they are the data of a record (RFC 1035 3.2.1)
+abbrev pub longest_key : ℕ
+longest_key = 65531
+
+-- the same where a record holds them
 abbrev pub held_octets : PublicKeyFields → Result (List ℕ) KeyDataError
-held_octets key = if nat_lt LONGEST_KEY (length key.octets) then Err DataTooLong else Ok (key_octets key)
+held_octets key = if nat_lt longest_key (length key.octets) then Err DataTooLong else Ok (key_octets key)
 
 -- the tag of a DNSKEY with these fields
 abbrev pub fields_tag : PublicKeyFields → Result ℕ KeyDataError
@@ -52,3 +55,8 @@ fields_tag key = do
 -- the tag of a DNSKEY
 abbrev pub dnskey_tag : DnsKeyData → Result ℕ KeyDataError
 dnskey_tag key = fields_tag (dnskey_fields key)
+
+-- whether a tag is this number; what has no tag has no number
+abbrev pub is_tag : Result ℕ KeyDataError → ℕ → Bool
+is_tag (Ok tag) n = nat_eq tag n
+is_tag (Err _) n = false

@@ -14,7 +14,8 @@ use crate::dnskey_fields::DnskeyFields;
 use crate::dnskey_flags::{flags_of, is_revoked, is_secure_entry_point, is_zone_key};
 use crate::optional_algorithm::{optional_algorithm, optional_algorithm_number};
 use dns_wire::{
-    BinDecoder, BinEncodable, BinEncoder, DecodeError, EmitError, OutOfMemory, RecordDataDecodable,
+    BinDecoder, BinEncodable, DecodeError, EmitError, Form, OctetSink, OutOfMemory, Putting,
+    RecordDataDecodable,
 };
 use sec_codes::{Algorithm, PublicKeyBuf};
 use std::alloc::Global;
@@ -176,13 +177,15 @@ impl<'r> RecordDataDecodable<'r> for CDNSKEY {
     }
 }
 
-impl BinEncodable for CDNSKEY {
+impl Putting for CDNSKEY {
     ghost written = { λ canonical _ key. fields_octets canonical dnskey_row (cdnskey_values (cdnskey_data key)) };
 
-    fn emit(&self, encoder: &mut BinEncoder) -> Result<(), EmitError> {
-        self.fields().emit(encoder)
+    fn put<S: OctetSink>(&self, form: Form, sink: &mut S) -> Result<(), EmitError> {
+        self.fields().put(form, sink)
     }
 }
+
+impl BinEncodable for CDNSKEY {}
 
 /// Flags, `3`, algorithm number or 0, key in base64 (RFC 4034 2.2, RFC 8078 4).
 impl fmt::Display for CDNSKEY {

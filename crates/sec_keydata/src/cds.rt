@@ -8,8 +8,8 @@ ghost use Rattle.sec_keydata.specs.DsData.{cds_data, cds_values, cds_text, field
 use crate::digest_fields::DigestFields;
 use crate::optional_algorithm::{optional_algorithm, optional_algorithm_number};
 use dns_wire::{
-    BinDecoder, BinEncodable, BinEncoder, DecodeError, EmitError, Octets, OutOfMemory,
-    RecordDataDecodable,
+    BinDecoder, BinEncodable, DecodeError, EmitError, Form, OctetSink, Octets, OutOfMemory,
+    Putting, RecordDataDecodable,
 };
 use sec_codes::Algorithm;
 use sec_digest::DigestType;
@@ -141,13 +141,15 @@ impl<'r> RecordDataDecodable<'r> for CDS {
     }
 }
 
-impl BinEncodable for CDS {
+impl Putting for CDS {
     ghost written = { λ canonical _ cds. fields_octets canonical ds_row (cds_values (cds_data cds)) };
 
-    fn emit(&self, encoder: &mut BinEncoder) -> Result<(), EmitError> {
-        self.fields().emit(encoder)
+    fn put<S: OctetSink>(&self, form: Form, sink: &mut S) -> Result<(), EmitError> {
+        self.fields().put(form, sink)
     }
 }
+
+impl BinEncodable for CDS {}
 
 /// Key tag, algorithm number and 0 for none, digest type number, digest in upper-case hexadecimal (RFC 4034 5.3, RFC
 /// 8078 4).

@@ -1,15 +1,15 @@
 //! The fields of DS and CDS data (RFC 4034 5.1, RFC 7344 3.1).
 ghost use Rattle.std.specs.Prelude.{◌≡◌, Some};
 ghost use Rattle.dns_wire.specs.Reading.{octets, place, Reads};
-ghost use Rattle.dns_wire.specs.Writing.{Writes};
+ghost use Rattle.dns_wire.specs.Sinks.{Puts};
 ghost use Rattle.dns_grammar.specs.Fields.{fields_octets};
 ghost use Rattle.dns_grammar.specs.RecordData.{one_type_data_at};
 ghost use Rattle.sec_keydata.specs.KeyRows.{ds_row};
 ghost use Rattle.sec_keydata.specs.DsData.{fields_values, fields_text};
 
-use dns_grammar::{FieldOut, data_end, emit_fields};
+use dns_grammar::{FieldOut, data_end, put_fields};
 use dns_text::UpperHex;
-use dns_wire::{BinDecoder, BinEncoder, DecodeError, EmitError};
+use dns_wire::{BinDecoder, DecodeError, EmitError, Form, OctetSink};
 use std::fmt;
 
 /// The fields: key tag, number of the algorithm, number of the digest type, digest.
@@ -47,12 +47,13 @@ impl<'a> DigestFields<'a> {
     }
 
     /// Writes the fields.
-    pub(crate) fn emit(&self, encoder: &mut BinEncoder) -> Result<(), EmitError>
-        ensures { Writes result encoder.old encoder.new
-            (fields_octets encoder.old.canonical_form ds_row (fields_values self.now)) }
+    pub(crate) fn put<S: OctetSink>(&self, form: Form, sink: &mut S) -> Result<(), EmitError>
+        ensures { Puts S.has_taken result sink.old sink.new
+            (fields_octets form.canonical_form ds_row (fields_values self.now)) }
     {
-        emit_fields(
-            encoder,
+        put_fields(
+            sink,
+            form,
             &[
                 FieldOut::U16(self.key_tag),
                 FieldOut::U8(self.algorithm),

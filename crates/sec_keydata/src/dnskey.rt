@@ -12,7 +12,8 @@ ghost use Rattle.sec_keydata.specs.WellFormedKeys.{is_well_formed};
 use crate::dnskey_fields::{DnskeyFields, LONGEST_KEY};
 use crate::dnskey_flags::{flags_of, is_revoked, is_secure_entry_point, is_zone_key};
 use dns_wire::{
-    BinDecoder, BinEncodable, BinEncoder, DecodeError, EmitError, OutOfMemory, RecordDataDecodable,
+    BinDecoder, BinEncodable, DecodeError, EmitError, Form, OctetSink, OutOfMemory, Putting,
+    RecordDataDecodable,
 };
 use sec_codes::{Algorithm, PublicKey, PublicKeyBuf, decode_public_key};
 use std::alloc::Global;
@@ -152,13 +153,15 @@ impl<'r> RecordDataDecodable<'r> for DNSKEY {
     }
 }
 
-impl BinEncodable for DNSKEY {
+impl Putting for DNSKEY {
     ghost written = { λ canonical _ key. fields_octets canonical dnskey_row (dnskey_values (dnskey_data key)) };
 
-    fn emit(&self, encoder: &mut BinEncoder) -> Result<(), EmitError> {
-        self.fields().emit(encoder)
+    fn put<S: OctetSink>(&self, form: Form, sink: &mut S) -> Result<(), EmitError> {
+        self.fields().put(form, sink)
     }
 }
+
+impl BinEncodable for DNSKEY {}
 
 /// Flags, `3`, algorithm number, key in base64 (RFC 4034 2.2).
 impl fmt::Display for DNSKEY {

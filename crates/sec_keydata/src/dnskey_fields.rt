@@ -3,7 +3,7 @@
 ghost use Rattle.std.specs.Prelude.{◌≡◌, ◌≤◌, ◌++◌, length, take, nat_lt, Some};
 ghost use Rattle.dns_names.specs.Names.{wire, low};
 ghost use Rattle.dns_wire.specs.Reading.{octets, place, Gives, Reads};
-ghost use Rattle.dns_wire.specs.Writing.{Writes};
+ghost use Rattle.dns_wire.specs.Sinks.{Puts};
 ghost use Rattle.dns_grammar.specs.Fields.{Num, no_fault, fields_octets};
 ghost use Rattle.dns_grammar.specs.RecordData.{one_type_data_at};
 ghost use Rattle.sec_digest.specs.Digests.{digest_octets};
@@ -16,10 +16,10 @@ ghost use Rattle.sec_keydata.specs.PublicKeyFields.{lent_fields, public_key_valu
 use crate::dnskey_flags::flags_of;
 use crate::key_data_error::KeyDataError;
 use crate::key_tag::{octet_sum, tag_of_sum};
-use dns_grammar::{FieldOut, data_end, emit_fields};
+use dns_grammar::{FieldOut, data_end, put_fields};
 use dns_names::Name;
 use dns_text::Base64Text;
-use dns_wire::{BinDecoder, BinEncoder, DecodeError, EmitError};
+use dns_wire::{BinDecoder, DecodeError, EmitError, Form, OctetSink};
 use sec_codes::PublicKey;
 use sec_digest::{Digest, DigestType};
 use std::fmt;
@@ -90,12 +90,13 @@ impl<'a> DnskeyFields<'a> {
     }
 
     /// Writes the fields.
-    pub(crate) fn emit(&self, encoder: &mut BinEncoder) -> Result<(), EmitError>
-        ensures { Writes result encoder.old encoder.new
-            (fields_octets encoder.old.canonical_form dnskey_row (public_key_values (lent_fields self.now))) }
+    pub(crate) fn put<S: OctetSink>(&self, form: Form, sink: &mut S) -> Result<(), EmitError>
+        ensures { Puts S.has_taken result sink.old sink.new
+            (fields_octets form.canonical_form dnskey_row (public_key_values (lent_fields self.now))) }
     {
-        emit_fields(
-            encoder,
+        put_fields(
+            sink,
+            form,
             &[
                 FieldOut::U16(self.flags),
                 FieldOut::U8(PROTOCOL),

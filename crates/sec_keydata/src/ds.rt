@@ -7,8 +7,8 @@ ghost use Rattle.sec_keydata.specs.DsData.{ds_data, ds_values, ds_text, fields_v
 
 use crate::digest_fields::DigestFields;
 use dns_wire::{
-    BinDecoder, BinEncodable, BinEncoder, DecodeError, EmitError, Octets, OutOfMemory,
-    RecordDataDecodable,
+    BinDecoder, BinEncodable, DecodeError, EmitError, Form, OctetSink, Octets, OutOfMemory,
+    Putting, RecordDataDecodable,
 };
 use sec_codes::Algorithm;
 use sec_digest::DigestType;
@@ -127,13 +127,15 @@ impl<'r> RecordDataDecodable<'r> for DS {
     }
 }
 
-impl BinEncodable for DS {
+impl Putting for DS {
     ghost written = { λ canonical _ ds. fields_octets canonical ds_row (ds_values (ds_data ds)) };
 
-    fn emit(&self, encoder: &mut BinEncoder) -> Result<(), EmitError> {
-        self.fields().emit(encoder)
+    fn put<S: OctetSink>(&self, form: Form, sink: &mut S) -> Result<(), EmitError> {
+        self.fields().put(form, sink)
     }
 }
+
+impl BinEncodable for DS {}
 
 /// Key tag, algorithm number, digest type number, digest in upper-case hexadecimal (RFC 4034 5.3).
 impl fmt::Display for DS {

@@ -10,11 +10,11 @@ ghost use Rattle.sec_keydata.specs.KeyData.{key_data, key_values, key_text, KeyI
 
 use crate::key_uses::{KeyTrust, KeyUsage, UpdateScope};
 use crate::protocol::Protocol;
-use dns_grammar::{FieldOut, data_end, emit_fields};
+use dns_grammar::{FieldOut, data_end, put_fields};
 use dns_text::Base64Text;
 use dns_wire::{
-    BinDecoder, BinEncodable, BinEncoder, DecodeError, EmitError, Octets, OutOfMemory,
-    RecordDataDecodable,
+    BinDecoder, BinEncodable, DecodeError, EmitError, Form, OctetSink, Octets, OutOfMemory,
+    Putting, RecordDataDecodable,
 };
 use sec_codes::Algorithm;
 use std::alloc::Global;
@@ -197,12 +197,13 @@ impl<'r> RecordDataDecodable<'r> for KEY {
     }
 }
 
-impl BinEncodable for KEY {
+impl Putting for KEY {
     ghost written = { λ canonical _ key. fields_octets canonical key_row (key_values (key_data key)) };
 
-    fn emit(&self, encoder: &mut BinEncoder) -> Result<(), EmitError> {
-        emit_fields(
-            encoder,
+    fn put<S: OctetSink>(&self, form: Form, sink: &mut S) -> Result<(), EmitError> {
+        put_fields(
+            sink,
+            form,
             &[
                 FieldOut::U16(self.flags),
                 FieldOut::U8(self.protocol.into()),
@@ -212,6 +213,8 @@ impl BinEncodable for KEY {
         )
     }
 }
+
+impl BinEncodable for KEY {}
 
 /// Flags, protocol number, name of the algorithm, key in base64 (RFC 2535 7.1).
 impl fmt::Display for KEY {

@@ -5,6 +5,7 @@ ghost use Rattle.sec_digest.specs.Digests.{digest_octets};
 ghost use Rattle.sec_keydata.specs.DsData.{ds_data};
 ghost use Rattle.sec_keydata.specs.DnsKeys.{dnskey_data};
 ghost use Rattle.sec_keydata.specs.KeyDigests.{ds_digest, secure_entry_key, ds_of_key, covered};
+ghost use Rattle.sec_keydata.specs.KeyDigests.{identifies};
 
 use crate::dnskey::DNSKEY;
 use crate::dnskey_fields::DnskeyFields;
@@ -80,5 +81,15 @@ impl DS {
     {
         let digest = key.to_digest(name, self.digest_type())?;
         Ok(key.zone_key() && digest.as_slice() == self.digest())
+    }
+
+    /// Whether this is the digest of the key at its owner, with the key's tag and algorithm (RFC 4034 5.2). A digest of an
+    /// unknown type is no key's (RFC 4035 5.2), and a key of more than 65,531 octets has none. Takes no memory.
+    pub fn identifies(&self, name: &Name, key: &DNSKEY) -> bool
+        ensures { result ≡ identifies name.now (ds_data self.now) (dnskey_data key.now) }
+    {
+        key.has_tag(self.key_tag())
+            && u8::from(self.algorithm()) == u8::from(key.public_key().algorithm())
+            && matches!(self.covers(name, key), Ok(true))
     }
 }

@@ -1,7 +1,7 @@
 //! The tags of keys (RFC 4034 appendix B).
 ghost use Rattle.std.specs.Prelude.{◌≡◌, ◌≤◌, ◌<◌, ◌*◌, ◌-◌, ◌^◌, length};
 ghost use Rattle.sec_keydata.specs.DnsKeys.{dnskey_data};
-ghost use Rattle.sec_keydata.specs.KeyTags.{octet_sum, tag_of_sum, key_tag, dnskey_tag};
+ghost use Rattle.sec_keydata.specs.KeyTags.{octet_sum, tag_of_sum, key_tag, dnskey_tag, is_tag};
 
 use crate::dnskey::DNSKEY;
 use crate::key_data_error::KeyDataError;
@@ -17,6 +17,16 @@ impl DNSKEY {
         ensures { result ≡ dnskey_tag (dnskey_data self.now) }
     {
         self.fields().tag()
+    }
+
+    /// Whether the key has this tag. One of more than 65,531 octets has none.
+    pub fn has_tag(&self, tag: u16) -> bool
+        ensures { result ≡ is_tag (dnskey_tag (dnskey_data self.now)) tag }
+    {
+        match self.calculate_key_tag() {
+            Ok(of_key) => of_key == tag,
+            Err(_) => false,
+        }
     }
 
     /// The tag of a DNSKEY whose data are these octets (RFC 4034 appendix B).

@@ -1,5 +1,5 @@
 mod EqualFields
 pub mod TsigData
 pub mod TsigNames
-pub mod TsigVariables
+pub mod VariableFields
 mod WrittenFields

@@ -9,11 +9,12 @@ use Rattle.dns_names.specs.NameLaws.{length_lt-wire}
 use Rattle.dns_types.specs.TypeSets.{is_bitmap}
 use Rattle.sec_digest.specs.declared.nsec3_hash.Nsec3HashAlgorithm.{Nsec3HashAlgorithm}
 use Rattle.sec_digest.specs.declared.nsec3_hash.Nsec3HashAlgorithm.TheVariants.{SHA1}
-use Rattle.dns_grammar.specs.Fields.{Field, Value, Num, Str, One, Rest, any, value_octets, fields_octets, joined}
+use Rattle.dns_wire.specs.Joining.{joined}
+use Rattle.dns_grammar.specs.Fields.{Field, Value, Num, Str, One, Rest, any, value_octets, fields_octets}
 use Rattle.sec_sigdata.specs.SignatureRows.{bitmap_fault, hash_algorithm_fault, nsec3_flags_fault, sig_row, nsec_row}
 use Rattle.sec_sigdata.specs.SignatureRows.{nsec3_row, nsec3param_row}
 use Rattle.dns_grammar.specs.Laws.{HoldsAll, AreReadBack}
-use Rattle.dns_grammar.proofs.FieldOutLaws.{joined_nil, joined_more}
+use Rattle.dns_wire.proofs.PutLaws.{joined_nil, joined_more}
 use Rattle.dns_grammar.proofs.ReadAgain.{written_row}
 use Rattle.dns_grammar.proofs.ReadBack.{with_count}
 use Rattle.sec_sigdata.specs.Signatures.{SigData, input_row, input_values, sig_values, InputFits}

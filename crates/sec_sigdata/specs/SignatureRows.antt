@@ -6,7 +6,7 @@ use Rattle.dns_wire.specs.declared.error.DecodeError.TheVariants.{BitmapMalforme
 use Rattle.dns_wire.specs.declared.error.DecodeError.TheVariants.{UnrecognizedNsec3Flags}
 use Rattle.dns_wire.specs.declared.error.EmitError.TheVariants.{SaltTooLong, HashTooLong}
 use Rattle.dns_types.specs.TypeSets.{is_bitmap}
-use Rattle.dns_grammar.specs.Fields.{One, Two, Four, Number, Counted, Rest, Lowered, Kept, Value, Num, Str, Field, any}
+use Rattle.dns_grammar.specs.Fields.{One, Two, Four, Number, Counted, Rest, LoweredName, KeptName, Value, Num, Str, Field, any}
 
 -- a set of types is a bitmap (RFC 4034 4.1.2)
 abbrev pub bitmap_fault : Value → Option DecodeError
@@ -38,11 +38,11 @@ nsec3_flags = record { kind = Number One; fault = nsec3_flags_fault }
 abbrev pub sig_row : List Field
 sig_row =
     any (Number Two) ∷ any (Number One) ∷ any (Number One) ∷ any (Number Four) ∷ any (Number Four) ∷ any (Number Four)
-    ∷ any (Number Two) ∷ any Lowered ∷ any Rest ∷ []
+    ∷ any (Number Two) ∷ any LoweredName ∷ any Rest ∷ []
 
 -- the next name, and the types at this one (RFC 4034 4.1). The name keeps its letters in canonical form (RFC 6840 5.1).
 abbrev pub nsec_row : List Field
-nsec_row = any Kept ∷ type_set ∷ []
+nsec_row = any KeptName ∷ type_set ∷ []
 
 -- hash algorithm, flags, iterations, salt, the hash of the next name, and the types at the name that was hashed (RFC
 -- 5155 3.2)

@@ -9,7 +9,7 @@ use Rattle.dns_wire.specs.Octets.{two_octets, four_octets, six_octets}
 use Rattle.dns_names.specs.Names.{wire, low}
 use Rattle.dns_names.specs.NameText.{name_text_without_dot}
 use Rattle.dns_types.specs.ClassNumbers as classes
-use Rattle.dns_grammar.specs.Fields.{Two, Four, Number, Time, Counted, Kept, Value, Num, Str, Named, Field, any}
+use Rattle.dns_grammar.specs.Fields.{Two, Four, Number, Time, Counted, KeptName, Value, Num, Str, Named, Field, any}
 use Rattle.dns_grammar.specs.Messages.{TsigData, tsig_values}
 use Rattle.sec_sigdata.specs.declared.tsig.TSIG.{TSIG}
 use Rattle.sec_sigdata.specs.declared.tsig_algorithm.TsigAlgorithm.{TsigAlgorithm}
@@ -137,10 +137,10 @@ written_variables owner tsig =
 -- the TSIG variables as fields, with an owner and an algorithm's name in lower case
 abbrev pub variables_row : List Field
 variables_row =
-    any Kept
+    any KeptName
     ∷ any (Number Two)
     ∷ any (Number Four)
-    ∷ any Kept
+    ∷ any KeptName
     ∷ any Time
     ∷ any (Number Two)
     ∷ any (Number Two)

@@ -1,8 +1,8 @@
 //! TSIG data in the octets that they were read from.
 ghost use Rattle.std.specs.Prelude.{◌≡◌, ◌≤◌, length, IfOk};
 ghost use Rattle.dns_wire.specs.Reading.{octets, place, Gives};
-ghost use Rattle.dns_wire.specs.Writing.{Writes};
-ghost use Rattle.dns_names.specs.Jumps.{AreJumps};
+ghost use Rattle.dns_wire.specs.Sinks.{Puts};
+ghost use Rattle.dns_names.specs.PointerCache.{IsPointerCache};
 ghost use Rattle.dns_grammar.specs.Fields.{fields_octets};
 ghost use Rattle.dns_grammar.specs.RecordData.{fields_filling};
 ghost use Rattle.dns_grammar.specs.Tables.{tsig_row};
@@ -12,9 +12,9 @@ ghost use Rattle.sec_sigdata.specs.TsigRecords.{TsigIsByNumber};
 
 use crate::tsig_algorithm::TsigAlgorithm;
 use crate::tsig_error::{TsigError, optional_error, optional_error_number};
-use dns_grammar::{FieldOut, emit_fields, expect_end};
+use dns_grammar::{FieldOut, expect_end, put_fields};
 use dns_names::Name;
-use dns_wire::{BinDecoder, BinEncoder, DecodeError, EmitError};
+use dns_wire::{BinDecoder, DecodeError, EmitError, Form, OctetSink, Putting};
 
 /// The data of a TSIG record (RFC 8945 4.2), whose octets are borrowed.
 #[derive(Clone, Copy, Debug)]
@@ -38,7 +38,7 @@ pub struct BorrowedTsig<'a> {
 impl<'a> BorrowedTsig<'a> {
     /// Reads the data of a TSIG record, which fill the octets up to `end`. It takes no memory.
     ///
-    /// Chains of pointers that were gone through before are known from `jumps`, and those that are met are noted there.
+    /// Pointers that were followed before are known from `cache`, and those that are met are noted there.
     ///
     /// # Errors
     ///
@@ -48,19 +48,19 @@ impl<'a> BorrowedTsig<'a> {
     pub fn read_with(
         mut reader: BinDecoder<'a>,
         end: usize,
-        jumps: &mut [u16],
+        cache: &mut [u16],
     ) -> Result<BorrowedTsig<'a>, DecodeError>
         requires ahead { place reader ≤ end }
         requires inside { end ≤ length (octets reader) }
-        requires jumps { AreJumps (octets reader) jumps.old }
+        requires cache { IsPointerCache (octets reader) cache.old }
         ensures exact { Gives borrowed_values result
             (fields_filling tsig_row (octets reader.entry) (place reader.entry) end) }
         ensures named { IfOk result (λ tsig. TsigIsByNumber (borrowed_fields tsig)) }
         ensures fits { IfOk result (λ tsig. TsigFits (borrowed_fields tsig)) }
-        ensures jumps { AreJumps (octets reader.entry) jumps.new }
+        ensures cache { IsPointerCache (octets reader.entry) cache.new }
     {
         let start = reader.index();
-        let algorithm = Name::read_with(&mut reader, end, jumps)?;
+        let algorithm = Name::read_with(&mut reader, end, cache)?;
         let time = reader.read_time_within(end)?;
         let fudge = reader.read_u16_within(end)?;
         let mac = reader.read_counted16_within(end)?;
@@ -102,35 +102,41 @@ impl<'a> BorrowedTsig<'a> {
     {
         optional_error_number(self.error)
     }
+}
 
-    /// Writes the data of a TSIG record. The algorithm's name keeps its letters.
+impl Putting for BorrowedTsig<'_> {
+    ghost use Rattle.dns_grammar.specs.Fields.{fields_octets};
+    ghost use Rattle.dns_grammar.specs.Tables.{tsig_row};
+    ghost use Rattle.sec_sigdata.specs.TsigRecords.{borrowed_values};
+
+    ghost written = { λ canonical _ tsig. fields_octets canonical tsig_row (borrowed_values tsig) };
+
+    /// Puts the data of a TSIG record. The algorithm's name keeps its letters.
     ///
     /// # Errors
     ///
-    /// `TimeTooLarge` for a time of 2^48 or more, `MacTooLong` and `OtherTooLong` above 65,535 octets, in this order,
-    /// or `OutOfMemory`. The encoder then stays as it was.
-    pub fn emit(&self, encoder: &mut BinEncoder) -> Result<(), EmitError>
-        ensures { Writes result encoder.old encoder.new
-            (fields_octets encoder.old.canonical_form tsig_row (borrowed_values self.now)) }
-    {
-        emit_with_algorithm(encoder, &self.algorithm.to_name(), self)
+    /// `TimeTooLarge` for a time of 2^48 or more, `MacTooLong` and `OtherTooLong` above 65,535 octets, in this order.
+    fn put<S: OctetSink>(&self, form: Form, sink: &mut S) -> Result<(), EmitError> {
+        put_with_algorithm(sink, form, &self.algorithm.to_name(), self)
     }
 }
 
-/// Writes the data with the name of their algorithm.
-fn emit_with_algorithm<'a>(
-    encoder: &mut BinEncoder,
+/// Puts the data with the name of their algorithm.
+fn put_with_algorithm<'a, S: OctetSink>(
+    sink: &mut S,
+    form: Form,
     algorithm: &'a Name,
     tsig: &'a BorrowedTsig<'a>,
 ) -> Result<(), EmitError>
     requires { algorithm.now ≡ algorithm_name tsig.now.algorithm }
-    ensures { Writes result encoder.old encoder.new
-        (fields_octets encoder.old.canonical_form tsig_row (borrowed_values tsig.now)) }
+    ensures { Puts S.has_taken result sink.old sink.new
+        (fields_octets form.canonical_form tsig_row (borrowed_values tsig.now)) }
 {
-    emit_fields(
-        encoder,
+    put_fields(
+        sink,
+        form,
         &[
-            FieldOut::Kept(algorithm),
+            FieldOut::KeptName(algorithm),
             FieldOut::Time(tsig.time),
             FieldOut::U16(tsig.fudge),
             FieldOut::Counted16(tsig.mac, EmitError::MacTooLong),

@@ -16,6 +16,7 @@ mod sig_input;
 mod tsig;
 mod tsig_algorithm;
 mod tsig_error;
+mod tsig_variables;
 mod type_list;
 
 pub use borrowed_tsig::BorrowedTsig;
@@ -30,3 +31,4 @@ pub use sig_input::SigInput;
 pub use tsig::TSIG;
 pub use tsig_algorithm::TsigAlgorithm;
 pub use tsig_error::TsigError;
+pub use tsig_variables::TsigVariables;

@@ -1,7 +1,7 @@
 //! NSEC records: which name is next in a zone, and which types there are at this one (RFC 4034 4).
 ghost use Rattle.std.specs.Prelude.{◌≡◌, ◌≤◌, ◌++◌, ◌∷◌, [], Some, IfOk, OnErr};
 ghost use Rattle.dns_wire.specs.Reading.{octets, place, ReadsUnless};
-ghost use Rattle.dns_names.specs.Jumps.{AreJumps};
+ghost use Rattle.dns_names.specs.PointerCache.{IsPointerCache};
 ghost use Rattle.dns_types.specs.TypeNumbers as numbers;
 ghost use Rattle.dns_types.specs.TypeSets.{form_of, is_one_of, types};
 ghost use Rattle.dns_grammar.specs.Fields.{fields_octets};
@@ -12,11 +12,12 @@ ghost use Rattle.sec_sigdata.specs.TypeLists as specs;
 ghost use Rattle.sec_sigdata.specs.Nsec.{nsec_data, nsec_values, nsec_text};
 
 use crate::type_list::{TypesText, is_ancestor_delegation};
-use dns_grammar::{FieldOut, data_end, emit_fields};
+use dns_grammar::{FieldOut, data_end, put_fields};
 use dns_names::Name;
 use dns_types::{RecordType, RecordTypeIter, RecordTypeSet};
 use dns_wire::{
-    BinDecoder, BinEncodable, BinEncoder, DecodeError, EmitError, OutOfMemory, RecordDataDecodable,
+    BinDecoder, BinEncodable, DecodeError, EmitError, Form, OctetSink, OutOfMemory, Putting,
+    RecordDataDecodable,
 };
 use std::alloc::Global;
 use std::fmt;
@@ -116,7 +117,7 @@ impl NSEC {
 
     /// Reads the data of `length` octets at the decoder's place: the next name and the types.
     ///
-    /// Chains of pointers that were gone through before are known from `jumps`, and those that are met are noted there.
+    /// Pointers that were followed before are known from `cache`, and those that are met are noted there.
     ///
     /// # Errors
     ///
@@ -126,17 +127,17 @@ impl NSEC {
         alloc: Global,
         decoder: &mut BinDecoder<'_>,
         length: u16,
-        jumps: &mut [u16],
+        cache: &mut [u16],
     ) -> Result<NSEC, DecodeError>
-        requires jumps { AreJumps (octets decoder.old) jumps.old }
+        requires cache { IsPointerCache (octets decoder.old) cache.old }
         ensures read { ReadsRow nsec_row (λ nsec. nsec_values (nsec_data nsec)) (λ _. Unit {0})
             length decoder.old decoder.new result }
         ensures octets { octets decoder.new ≡ octets decoder.old }
         ensures forward { place decoder.old ≤ place decoder.new }
         ensures refused { OnErr result (decoder.new ≡ decoder.old) }
-        ensures jumps { AreJumps (octets decoder.old) jumps.new }
+        ensures cache { IsPointerCache (octets decoder.old) cache.new }
     {
-        NSEC::read_fields(alloc, decoder, length, jumps)
+        NSEC::read_fields(alloc, decoder, length, cache)
     }
 
     /// Reads the fields of the data.
@@ -145,16 +146,16 @@ impl NSEC {
         alloc: Global,
         decoder: &mut BinDecoder<'_>,
         length: u16,
-        jumps: &mut [u16],
+        cache: &mut [u16],
     ) -> Result<NSEC, DecodeError>
-        requires jumps { AreJumps (octets decoder.old) jumps.old }
+        requires cache { IsPointerCache (octets decoder.old) cache.old }
         ensures exact { ReadsUnless (λ nsec. nsec_values (nsec_data nsec)) result decoder.old decoder.new
             (one_type_data_at nsec_row (octets decoder.old) (place decoder.old) length) }
-        ensures jumps { AreJumps (octets decoder.old) jumps.new }
+        ensures cache { IsPointerCache (octets decoder.old) cache.new }
     {
         let end = data_end(decoder, length)?;
         let mut reader = *decoder;
-        let next_domain_name = Name::read_with(&mut reader, end, jumps)?;
+        let next_domain_name = Name::read_with(&mut reader, end, cache)?;
         let types = RecordTypeSet::read_within(alloc, &mut reader, end)?;
         *decoder = reader;
         Ok(NSEC {
@@ -182,19 +183,22 @@ impl<'r> RecordDataDecodable<'r> for NSEC {
     }
 }
 
-impl BinEncodable for NSEC {
+impl Putting for NSEC {
     ghost written = { λ canonical _ nsec. fields_octets canonical nsec_row (nsec_values (nsec_data nsec)) };
 
-    fn emit(&self, encoder: &mut BinEncoder) -> Result<(), EmitError> {
-        emit_fields(
-            encoder,
+    fn put<S: OctetSink>(&self, form: Form, sink: &mut S) -> Result<(), EmitError> {
+        put_fields(
+            sink,
+            form,
             &[
-                FieldOut::Kept(&self.next_domain_name),
+                FieldOut::KeptName(&self.next_domain_name),
                 FieldOut::Octets(self.types.as_octets()),
             ],
         )
     }
 }
+
+impl BinEncodable for NSEC {}
 
 /// The next name, and each type (RFC 4034 4.2).
 impl fmt::Display for NSEC {

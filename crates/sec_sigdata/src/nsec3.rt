@@ -15,12 +15,12 @@ ghost use Rattle.sec_sigdata.specs.Nsec3.{nsec3_data, nsec3_values, nsec3_text};
 use crate::hash_parameters::HashParameters;
 use crate::hashed_name::HashedName;
 use crate::type_list::{TypesText, is_ancestor_delegation};
-use dns_grammar::{FieldOut, data_end, emit_fields};
+use dns_grammar::{FieldOut, data_end, put_fields};
 use dns_names::Label;
 use dns_types::{RecordType, RecordTypeIter, RecordTypeSet};
 use dns_wire::{
-    BinDecoder, BinEncodable, BinEncoder, DecodeError, EmitError, Octets, OutOfMemory,
-    RecordDataDecodable,
+    BinDecoder, BinEncodable, DecodeError, EmitError, Form, OctetSink, Octets, OutOfMemory,
+    Putting, RecordDataDecodable,
 };
 use sec_digest::{Base32Text, Nsec3HashAlgorithm};
 use std::alloc::Global;
@@ -204,13 +204,14 @@ impl<'r> RecordDataDecodable<'r> for NSEC3 {
     }
 }
 
-impl BinEncodable for NSEC3 {
+impl Putting for NSEC3 {
     ghost written = { λ canonical _ nsec3. fields_octets canonical nsec3_row (nsec3_values (nsec3_data nsec3)) };
 
-    fn emit(&self, encoder: &mut BinEncoder) -> Result<(), EmitError> {
+    fn put<S: OctetSink>(&self, form: Form, sink: &mut S) -> Result<(), EmitError> {
         let parameters = &self.parameters;
-        emit_fields(
-            encoder,
+        put_fields(
+            sink,
+            form,
             &[
                 FieldOut::U8(parameters.hash_algorithm.into()),
                 FieldOut::U8(parameters.flags()),
@@ -225,6 +226,8 @@ impl BinEncodable for NSEC3 {
         )
     }
 }
+
+impl BinEncodable for NSEC3 {}
 
 /// Hash number, flags, iterations, salt in upper-case hexadecimal or `-` for none, the next hash in base32, each type
 /// (RFC 5155 3.3).

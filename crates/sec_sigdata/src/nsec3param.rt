@@ -8,10 +8,10 @@ ghost use Rattle.sec_sigdata.specs.SignatureRows.{nsec3param_row};
 ghost use Rattle.sec_sigdata.specs.HashParameters.{opt_out_flags, nsec3param_data, hash_values, hash_text};
 
 use crate::hash_parameters::HashParameters;
-use dns_grammar::{FieldOut, data_end, emit_fields, expect_end};
+use dns_grammar::{FieldOut, data_end, expect_end, put_fields};
 use dns_wire::{
-    BinDecoder, BinEncodable, BinEncoder, DecodeError, EmitError, Octets, OutOfMemory,
-    RecordDataDecodable,
+    BinDecoder, BinEncodable, DecodeError, EmitError, Form, OctetSink, Octets, OutOfMemory,
+    Putting, RecordDataDecodable,
 };
 use sec_digest::Nsec3HashAlgorithm;
 use std::alloc::Global;
@@ -129,14 +129,15 @@ impl<'r> RecordDataDecodable<'r> for NSEC3PARAM {
     }
 }
 
-impl BinEncodable for NSEC3PARAM {
+impl Putting for NSEC3PARAM {
     ghost written = { λ canonical _ param.
         fields_octets canonical nsec3param_row (hash_values (nsec3param_data param)) };
 
-    fn emit(&self, encoder: &mut BinEncoder) -> Result<(), EmitError> {
+    fn put<S: OctetSink>(&self, form: Form, sink: &mut S) -> Result<(), EmitError> {
         let parameters = &self.0;
-        emit_fields(
-            encoder,
+        put_fields(
+            sink,
+            form,
             &[
                 FieldOut::U8(parameters.hash_algorithm.into()),
                 FieldOut::U8(parameters.flags()),
@@ -146,6 +147,8 @@ impl BinEncodable for NSEC3PARAM {
         )
     }
 }
+
+impl BinEncodable for NSEC3PARAM {}
 
 /// Hash number, flags, iterations, salt in upper-case hexadecimal or `-` for none (RFC 5155 4.3).
 impl fmt::Display for NSEC3PARAM {

@@ -1,7 +1,7 @@
 //! RRSIG records: signatures of record sets (RFC 4034 3).
 ghost use Rattle.std.specs.Prelude.{◌≡◌, ◌≤◌, Some, IfOk, OnErr};
 ghost use Rattle.dns_wire.specs.Reading.{octets, place};
-ghost use Rattle.dns_names.specs.Jumps.{AreJumps};
+ghost use Rattle.dns_names.specs.PointerCache.{IsPointerCache};
 ghost use Rattle.dns_grammar.specs.Fields.{fields_octets};
 ghost use Rattle.dns_grammar.specs.RowReaders.{ReadsRow};
 ghost use Rattle.sec_sigdata.specs.SignatureRows.{sig_row};
@@ -10,7 +10,8 @@ ghost use Rattle.sec_sigdata.specs.Signatures.{sig_data, rrsig_data, sig_values,
 use crate::sig::SIG;
 use crate::sig_input::SigInput;
 use dns_wire::{
-    BinDecoder, BinEncodable, BinEncoder, DecodeError, EmitError, OutOfMemory, RecordDataDecodable,
+    BinDecoder, BinEncodable, DecodeError, EmitError, Form, OctetSink, OutOfMemory, Putting,
+    RecordDataDecodable,
 };
 use std::alloc::Global;
 use std::fmt;
@@ -41,7 +42,7 @@ impl RRSIG {
 
     /// Reads the data of `length` octets at the decoder's place: the fields of a SIG.
     ///
-    /// Chains of pointers that were gone through before are known from `jumps`, and those that are met are noted there.
+    /// Pointers that were followed before are known from `cache`, and those that are met are noted there.
     ///
     /// # Errors
     ///
@@ -50,17 +51,17 @@ impl RRSIG {
         alloc: Global,
         decoder: &mut BinDecoder<'_>,
         length: u16,
-        jumps: &mut [u16],
+        cache: &mut [u16],
     ) -> Result<RRSIG, DecodeError>
-        requires jumps { AreJumps (octets decoder.old) jumps.old }
+        requires cache { IsPointerCache (octets decoder.old) cache.old }
         ensures read { ReadsRow sig_row (λ rrsig. sig_values (rrsig_data rrsig))
             (λ rrsig. SigIsByNumber (rrsig_data rrsig)) length decoder.old decoder.new result }
         ensures octets { octets decoder.new ≡ octets decoder.old }
         ensures forward { place decoder.old ≤ place decoder.new }
         ensures refused { OnErr result (decoder.new ≡ decoder.old) }
-        ensures jumps { AreJumps (octets decoder.old) jumps.new }
+        ensures cache { IsPointerCache (octets decoder.old) cache.new }
     {
-        Ok(RRSIG(SIG::read_with(alloc, decoder, length, jumps)?))
+        Ok(RRSIG(SIG::read_with(alloc, decoder, length, cache)?))
     }
 }
 
@@ -88,13 +89,15 @@ impl<'r> RecordDataDecodable<'r> for RRSIG {
     }
 }
 
-impl BinEncodable for RRSIG {
+impl Putting for RRSIG {
     ghost written = { λ canonical _ rrsig. fields_octets canonical sig_row (sig_values (rrsig_data rrsig)) };
 
-    fn emit(&self, encoder: &mut BinEncoder) -> Result<(), EmitError> {
-        self.0.emit(encoder)
+    fn put<S: OctetSink>(&self, form: Form, sink: &mut S) -> Result<(), EmitError> {
+        self.0.put(form, sink)
     }
 }
+
+impl BinEncodable for RRSIG {}
 
 /// The text of a SIG (RFC 4034 3.2).
 impl fmt::Display for RRSIG {

@@ -1,7 +1,7 @@
 //! SIG records: signatures of messages (RFC 2931), and of record sets in the older form (RFC 2535 4).
 ghost use Rattle.std.specs.Prelude.{◌≡◌, ◌≤◌, Some, IfOk, OnErr};
 ghost use Rattle.dns_wire.specs.Reading.{octets, place, ReadsUnless};
-ghost use Rattle.dns_names.specs.Jumps.{AreJumps};
+ghost use Rattle.dns_names.specs.PointerCache.{IsPointerCache};
 ghost use Rattle.dns_grammar.specs.Fields.{fields_octets};
 ghost use Rattle.dns_grammar.specs.RecordData.{one_type_data_at};
 ghost use Rattle.dns_grammar.specs.RowReaders.{ReadsRow};
@@ -9,11 +9,11 @@ ghost use Rattle.sec_sigdata.specs.SignatureRows.{sig_row};
 ghost use Rattle.sec_sigdata.specs.Signatures.{sig_data, sig_values, sig_text, SigIsByNumber};
 
 use crate::sig_input::{KindText, SigInput, TimesText};
-use dns_grammar::{FieldOut, data_end, emit_fields};
+use dns_grammar::{FieldOut, data_end, put_fields};
 use dns_text::Base64Text;
 use dns_wire::{
-    BinDecoder, BinEncodable, BinEncoder, DecodeError, EmitError, Octets, OutOfMemory,
-    RecordDataDecodable,
+    BinDecoder, BinEncodable, DecodeError, EmitError, Form, OctetSink, Octets, OutOfMemory,
+    Putting, RecordDataDecodable,
 };
 use std::alloc::Global;
 use std::fmt;
@@ -67,7 +67,7 @@ impl SIG {
 
     /// Reads the data of `length` octets at the decoder's place: the fields before the signature, and the signature.
     ///
-    /// Chains of pointers that were gone through before are known from `jumps`, and those that are met are noted there.
+    /// Pointers that were followed before are known from `cache`, and those that are met are noted there.
     ///
     /// # Errors
     ///
@@ -77,17 +77,17 @@ impl SIG {
         alloc: Global,
         decoder: &mut BinDecoder<'_>,
         length: u16,
-        jumps: &mut [u16],
+        cache: &mut [u16],
     ) -> Result<SIG, DecodeError>
-        requires jumps { AreJumps (octets decoder.old) jumps.old }
+        requires cache { IsPointerCache (octets decoder.old) cache.old }
         ensures read { ReadsRow sig_row (λ sig. sig_values (sig_data sig)) (λ sig. SigIsByNumber (sig_data sig))
             length decoder.old decoder.new result }
         ensures octets { octets decoder.new ≡ octets decoder.old }
         ensures forward { place decoder.old ≤ place decoder.new }
         ensures refused { OnErr result (decoder.new ≡ decoder.old) }
-        ensures jumps { AreJumps (octets decoder.old) jumps.new }
+        ensures cache { IsPointerCache (octets decoder.old) cache.new }
     {
-        SIG::read_fields(alloc, decoder, length, jumps)
+        SIG::read_fields(alloc, decoder, length, cache)
     }
 
     /// Reads the fields of the data.
@@ -96,17 +96,17 @@ impl SIG {
         alloc: Global,
         decoder: &mut BinDecoder<'_>,
         length: u16,
-        jumps: &mut [u16],
+        cache: &mut [u16],
     ) -> Result<SIG, DecodeError>
-        requires jumps { AreJumps (octets decoder.old) jumps.old }
+        requires cache { IsPointerCache (octets decoder.old) cache.old }
         ensures exact { ReadsUnless (λ sig. sig_values (sig_data sig)) result decoder.old decoder.new
             (one_type_data_at sig_row (octets decoder.old) (place decoder.old) length) }
         ensures by_number { IfOk result (λ sig. SigIsByNumber (sig_data sig)) }
-        ensures jumps { AreJumps (octets decoder.old) jumps.new }
+        ensures cache { IsPointerCache (octets decoder.old) cache.new }
     {
         let end = data_end(decoder, length)?;
         let mut reader = *decoder;
-        let input = SigInput::read_with(&mut reader, end, jumps)?;
+        let input = SigInput::read_with(&mut reader, end, cache)?;
         let sig = Octets::from_slice(alloc, reader.read_rest_within(end))?;
         *decoder = reader;
         Ok(SIG { input, sig })
@@ -131,13 +131,14 @@ impl<'r> RecordDataDecodable<'r> for SIG {
     }
 }
 
-impl BinEncodable for SIG {
+impl Putting for SIG {
     ghost written = { λ canonical _ sig. fields_octets canonical sig_row (sig_values (sig_data sig)) };
 
-    fn emit(&self, encoder: &mut BinEncoder) -> Result<(), EmitError> {
+    fn put<S: OctetSink>(&self, form: Form, sink: &mut S) -> Result<(), EmitError> {
         let input = &self.input;
-        emit_fields(
-            encoder,
+        put_fields(
+            sink,
+            form,
             &[
                 FieldOut::U16(input.type_covered.into()),
                 FieldOut::U8(input.algorithm.into()),
@@ -146,12 +147,14 @@ impl BinEncodable for SIG {
                 FieldOut::U32(input.sig_expiration.0),
                 FieldOut::U32(input.sig_inception.0),
                 FieldOut::U16(input.key_tag),
-                FieldOut::Lowered(&input.signer_name),
+                FieldOut::LoweredName(&input.signer_name),
                 FieldOut::Octets(self.sig.as_slice()),
             ],
         )
     }
 }
+
+impl BinEncodable for SIG {}
 
 /// Type covered, name of the algorithm, labels, original TTL, expiration, inception, key tag, signer's name, signature
 /// in base64 (RFC 4034 3.2), the times as numbers of seconds.

@@ -1,15 +1,17 @@
 //! What stands before the signature in SIG and RRSIG records (RFC 2535 4.1, RFC 4034 3.1).
 ghost use Rattle.std.specs.Prelude.{◌≡◌, ◌≤◌, length, Some, IfOk};
 ghost use Rattle.dns_wire.specs.Reading.{octets, place, Reads};
-ghost use Rattle.dns_names.specs.Jumps.{AreJumps};
+ghost use Rattle.dns_names.specs.PointerCache.{IsPointerCache};
 ghost use Rattle.dns_grammar.specs.Fields.{fields_at, fields_octets};
 ghost use Rattle.sec_codes.specs.Algorithms.{number, algorithm_numbered};
 ghost use Rattle.sec_sigdata.specs.Signatures.{input_row, input_values, kind_text, times_text};
 
-use dns_grammar::{FieldOut, emit_fields};
+use dns_grammar::{FieldOut, put_fields};
 use dns_names::Name;
 use dns_types::RecordType;
-use dns_wire::{BinDecoder, BinEncodable, BinEncoder, DecodeError, EmitError, SerialNumber};
+use dns_wire::{
+    BinDecoder, BinEncodable, DecodeError, EmitError, Form, OctetSink, Putting, SerialNumber,
+};
 use sec_codes::Algorithm;
 use std::fmt;
 
@@ -36,7 +38,7 @@ pub struct SigInput {
 
 impl SigInput {
     /// Reads type covered, algorithm, labels, original TTL, expiration, inception, key tag and signer's name of data
-    /// that end at `end`, the name through known jumps. A refused reading leaves the decoder.
+    /// that end at `end`, the name by a pointer cache. A refused reading leaves the decoder.
     ///
     /// # Errors
     ///
@@ -44,16 +46,16 @@ impl SigInput {
     pub fn read_with(
         decoder: &mut BinDecoder<'_>,
         end: usize,
-        jumps: &mut [u16],
+        cache: &mut [u16],
     ) -> Result<SigInput, DecodeError>
         requires ahead { place decoder.old ≤ end }
         requires inside { end ≤ length (octets decoder.old) }
-        requires jumps { AreJumps (octets decoder.old) jumps.old }
+        requires cache { IsPointerCache (octets decoder.old) cache.old }
         ensures exact { Reads input_values result decoder.old decoder.new
             (fields_at input_row (octets decoder.old) (place decoder.old) end) }
         ensures by_number { IfOk result (λ input. input.algorithm ≡ algorithm_numbered (number input.algorithm)) }
         ensures inside { place decoder.new ≤ end }
-        ensures jumps { AreJumps (octets decoder.old) jumps.new }
+        ensures cache { IsPointerCache (octets decoder.old) cache.new }
     {
         let mut reader = *decoder;
         let type_covered = reader.read_u16_within(end)?;
@@ -63,7 +65,7 @@ impl SigInput {
         let sig_expiration = reader.read_u32_within(end)?;
         let sig_inception = reader.read_u32_within(end)?;
         let key_tag = reader.read_u16_within(end)?;
-        let signer_name = Name::read_with(&mut reader, end, jumps)?;
+        let signer_name = Name::read_with(&mut reader, end, cache)?;
         *decoder = reader;
         Ok(SigInput {
             type_covered: type_covered.into(),
@@ -78,14 +80,14 @@ impl SigInput {
     }
 }
 
-/// The fields are written as in a signature's data, in canonical form with the signer's name in lower case (RFC 4034
-/// 6.2).
-impl BinEncodable for SigInput {
+/// The fields are put as in a signature's data, in canonical form with the signer's name in lower case (RFC 4034 6.2).
+impl Putting for SigInput {
     ghost written = { λ canonical _ input. fields_octets canonical input_row (input_values input) };
 
-    fn emit(&self, encoder: &mut BinEncoder) -> Result<(), EmitError> {
-        emit_fields(
-            encoder,
+    fn put<S: OctetSink>(&self, form: Form, sink: &mut S) -> Result<(), EmitError> {
+        put_fields(
+            sink,
+            form,
             &[
                 FieldOut::U16(self.type_covered.into()),
                 FieldOut::U8(self.algorithm.into()),
@@ -94,11 +96,13 @@ impl BinEncodable for SigInput {
                 FieldOut::U32(self.sig_expiration.0),
                 FieldOut::U32(self.sig_inception.0),
                 FieldOut::U16(self.key_tag),
-                FieldOut::Lowered(&self.signer_name),
+                FieldOut::LoweredName(&self.signer_name),
             ],
         )
     }
 }
+
+impl BinEncodable for SigInput {}
 
 /// The first three fields, as they are printed.
 #[derive(Clone, Copy)]

@@ -1,26 +1,27 @@
 //! TSIG records: the signature of a message (RFC 8945).
 ghost use Rattle.std.specs.Prelude.{◌≡◌, ◌≤◌, Some, IfOk, OnErr};
-ghost use Rattle.dns_wire.specs.Writing.{Writes};
 ghost use Rattle.dns_wire.specs.Reading.{octets, place, ReadsUnless};
-ghost use Rattle.dns_names.specs.Jumps.{AreJumps};
+ghost use Rattle.dns_wire.specs.Writing.{Writes};
+ghost use Rattle.dns_names.specs.PointerCache.{IsPointerCache};
 ghost use Rattle.dns_grammar.specs.Fields.{fields_octets};
 ghost use Rattle.dns_grammar.specs.RecordData.{one_type_data_at};
 ghost use Rattle.dns_grammar.specs.RowReaders.{ReadsRow};
 ghost use Rattle.dns_grammar.specs.Tables.{tsig_row};
 ghost use Rattle.dns_grammar.specs.Messages.{tsig_values};
 ghost use Rattle.sec_sigdata.specs.TsigRecords.{tsig_data, tsig_fields, borrowed_fields, TsigIsByNumber, TsigFits};
-ghost use Rattle.sec_sigdata.specs.TsigRecords.{signed_text, error_text, tsig_text, variables_row, variables_values};
+ghost use Rattle.sec_sigdata.specs.TsigRecords.{signed_text, error_text, tsig_text};
 ghost use Rattle.sec_sigdata.specs.TsigRecords.{written_variables};
 
 use crate::borrowed_tsig::BorrowedTsig;
 use crate::tsig_algorithm::TsigAlgorithm;
 use crate::tsig_error::{TsigError, optional_error_number};
-use dns_grammar::{FieldOut, data_end, emit_fields};
+use crate::tsig_variables::TsigVariables;
+use dns_grammar::data_end;
 use dns_names::Name;
 use dns_text::LowerHex;
-use dns_types::DNSClass;
 use dns_wire::{
-    BinDecoder, BinEncodable, BinEncoder, DecodeError, EmitError, OutOfMemory, RecordDataDecodable,
+    BinDecoder, BinEncodable, BinEncoder, DecodeError, EmitError, Form, OctetSink, OutOfMemory,
+    Putting, RecordDataDecodable, emit_put,
 };
 use std::alloc::Global;
 use std::fmt;
@@ -132,14 +133,14 @@ impl TSIG {
     ) -> Result<(), EmitError>
         ensures { Writes result encoder.old encoder.new (written_variables key_name.now (tsig_data self.now)) }
     {
-        let algorithm = self.algorithm.to_name().to_lowercase();
-        emit_variables(encoder, &key_name.to_lowercase(), &algorithm, self)
+        let tsig = self.borrowed();
+        emit_put(&TsigVariables { key_name, tsig }, encoder)
     }
 
     /// Reads the data of `length` octets at the decoder's place: algorithm name, time, fudge, MAC, original ID, error and
     /// other data.
     ///
-    /// Chains of pointers that were gone through before are known from `jumps`, and those that are met are noted there.
+    /// Pointers that were followed before are known from `cache`, and those that are met are noted there.
     ///
     /// # Errors
     ///
@@ -149,18 +150,18 @@ impl TSIG {
         alloc: Global,
         decoder: &mut BinDecoder<'_>,
         length: u16,
-        jumps: &mut [u16],
+        cache: &mut [u16],
     ) -> Result<TSIG, DecodeError>
-        requires jumps { AreJumps (octets decoder.old) jumps.old }
+        requires cache { IsPointerCache (octets decoder.old) cache.old }
         ensures read { ReadsRow tsig_row (λ tsig. tsig_values (tsig_data tsig))
             (λ tsig. TsigIsByNumber (tsig_fields tsig)) length decoder.old decoder.new result }
         ensures fits { IfOk result (λ tsig. TsigFits (tsig_fields tsig)) }
         ensures octets { octets decoder.new ≡ octets decoder.old }
         ensures forward { place decoder.old ≤ place decoder.new }
         ensures refused { OnErr result (decoder.new ≡ decoder.old) }
-        ensures jumps { AreJumps (octets decoder.old) jumps.new }
+        ensures cache { IsPointerCache (octets decoder.old) cache.new }
     {
-        TSIG::read_fields(alloc, decoder, length, jumps)
+        TSIG::read_fields(alloc, decoder, length, cache)
     }
 
     /// Reads the fields of the data.
@@ -169,18 +170,18 @@ impl TSIG {
         alloc: Global,
         decoder: &mut BinDecoder<'_>,
         length: u16,
-        jumps: &mut [u16],
+        cache: &mut [u16],
     ) -> Result<TSIG, DecodeError>
-        requires jumps { AreJumps (octets decoder.old) jumps.old }
+        requires cache { IsPointerCache (octets decoder.old) cache.old }
         ensures exact { ReadsUnless (λ tsig. tsig_values (tsig_data tsig)) result decoder.old decoder.new
             (one_type_data_at tsig_row (octets decoder.old) (place decoder.old) length) }
         ensures by_number { IfOk result (λ tsig. TsigIsByNumber (tsig_fields tsig)) }
         ensures fits { IfOk result (λ tsig. TsigFits (tsig_fields tsig)) }
-        ensures jumps { AreJumps (octets decoder.old) jumps.new }
+        ensures cache { IsPointerCache (octets decoder.old) cache.new }
     {
         let end = data_end(decoder, length)?;
         // A `match`, since the check has no rule for `?` at a value that holds a name and a reference.
-        match BorrowedTsig::read_with(*decoder, end, jumps) {
+        match BorrowedTsig::read_with(*decoder, end, cache) {
             Ok(view) => {
                 let mac = Vec::from_slice(alloc, view.mac)?;
                 let other = Vec::from_slice(alloc, view.other)?;
@@ -198,32 +199,6 @@ impl TSIG {
             Err(fault) => Err(fault),
         }
     }
-}
-
-/// Writes the TSIG variables of a record, with its owner and the name of its algorithm in lower case.
-fn emit_variables<'a>(
-    encoder: &mut BinEncoder,
-    owner: &'a Name,
-    algorithm: &'a Name,
-    tsig: &'a TSIG,
-) -> Result<(), EmitError>
-    ensures { Writes result encoder.old encoder.new
-        (fields_octets encoder.old.canonical_form variables_row
-        (variables_values owner.now algorithm.now (tsig_data tsig.now))) }
-{
-    emit_fields(
-        encoder,
-        &[
-            FieldOut::Kept(owner),
-            FieldOut::U16(DNSClass::ANY.into()),
-            FieldOut::U32(0),
-            FieldOut::Kept(algorithm),
-            FieldOut::Time(tsig.time),
-            FieldOut::U16(tsig.fudge),
-            FieldOut::U16(optional_error_number(tsig.error)),
-            FieldOut::Counted16(tsig.other.as_slice(), EmitError::OtherTooLong),
-        ],
-    )
 }
 
 impl<'r> RecordDataDecodable<'r> for TSIG {
@@ -249,19 +224,20 @@ impl<'r> RecordDataDecodable<'r> for TSIG {
     }
 }
 
-impl BinEncodable for TSIG {
+impl Putting for TSIG {
     ghost written = { λ canonical _ tsig. fields_octets canonical tsig_row (tsig_values (tsig_data tsig)) };
 
-    /// Writes the data. The algorithm's name keeps its letters, whatever the encoder's name encoding and form.
+    /// Puts the data. The algorithm's name keeps its letters, whatever the name encoding and form.
     ///
     /// # Errors
     ///
-    /// `TimeTooLarge` for a time of 2^48 or more, `MacTooLong` and `OtherTooLong` above 65,535 octets, in this order,
-    /// or `OutOfMemory`.
-    fn emit(&self, encoder: &mut BinEncoder) -> Result<(), EmitError> {
-        self.borrowed().emit(encoder)
+    /// `TimeTooLarge` for a time of 2^48 or more, `MacTooLong` and `OtherTooLong` above 65,535 octets, in this order.
+    fn put<S: OctetSink>(&self, form: Form, sink: &mut S) -> Result<(), EmitError> {
+        self.borrowed().put(form, sink)
     }
 }
+
+impl BinEncodable for TSIG {}
 
 /// Algorithm, time, fudge and MAC.
 #[derive(Drop)]

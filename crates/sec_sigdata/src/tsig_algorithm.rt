@@ -8,7 +8,9 @@ ghost use Rattle.sec_sigdata.specs.TsigAlgorithms.{hash_of, supported, algorithm
 
 use crate::error::DnsSecError;
 use dns_names::{Label, Name, NameWithoutDot};
-use dns_wire::{BinDecodable, BinDecoder, BinEncodable, BinEncoder, DecodeError, EmitError};
+use dns_wire::{
+    BinDecodable, BinDecoder, BinEncodable, DecodeError, EmitError, Form, OctetSink, Putting,
+};
 use sec_digest::{Hmac, HmacHash};
 use std::alloc::Global;
 use std::fmt;
@@ -215,18 +217,16 @@ impl From<HmacHash> for TsigAlgorithm {
     }
 }
 
-impl BinEncodable for TsigAlgorithm {
+impl Putting for TsigAlgorithm {
     ghost written = { λ canonical_form name_encoding a. Ok (name_octets name_encoding (algorithm_name a)) };
 
-    /// Writes the name, lower-cased where the encoder's name encoding says so.
-    ///
-    /// # Errors
-    ///
-    /// Out of memory.
-    fn emit(&self, encoder: &mut BinEncoder) -> Result<(), EmitError> {
-        self.to_name().emit(encoder)
+    /// Puts the name, in lower case where the name encoding says so.
+    fn put<S: OctetSink>(&self, form: Form, sink: &mut S) -> Result<(), EmitError> {
+        self.to_name().put(form, sink)
     }
 }
+
+impl BinEncodable for TsigAlgorithm {}
 
 impl<'r> BinDecodable<'r> for TsigAlgorithm {
     ghost is_read = { λ old new result. Reads (λ a. a) result old new (algorithm_at (octets old) (place old)) };

@@ -19,7 +19,7 @@ use Rattle.dns_message.specs.declared.record.Record.{Record}
 use Rattle.sec_sign.specs.Ascending.{ascending}
 use Rattle.sec_sign.specs.declared.tbs_error.TbsError.{TbsError}
 use Rattle.sec_sign.specs.Signed.{canonical, canonical_each, chosen, header_octets, record_front, record_octets}
-use Rattle.sec_sign.specs.Signed.{records_octets, set_data, shown, signed, signed_octets}
+use Rattle.sec_sign.specs.Signed.{records_octets, set_data, signed_owner, signed, signed_octets}
 use Rattle.sec_sign.specs.OneReading.{OneReading, SameHeader}
 use Rattle.sec_sign.proofs.Ascending.{each-ascending, some-ascending, none-ascending}
 use Rattle.sec_sign.proofs.Owners.{shown_name}
@@ -235,7 +235,7 @@ ok_octets : (x y : List ℕ) → ◌≡◌ {A = Result (List ℕ) TbsError} (Ok 
 ok_octets x y same = cc
 
 whole : (h : SigInput) (n owner : List (List ℕ)) (k : ℕ) (records : List (Record RData)) (cs : List (List ℕ))
-    (x : List ℕ) → shown n h.num_labels ≡ Ok owner → set_data n k h.type_covered records ≡ Ok cs
+    (x : List ℕ) → signed_owner n h.num_labels ≡ Ok owner → set_data n k h.type_covered records ≡ Ok cs
     → signed h n k records ≡ Ok x → header_octets h ++ records_octets owner k h cs ≡ x
 unfolding signed_octets
 whole h n owner k records cs x shown_is set_is is =

@@ -8,7 +8,7 @@ use Rattle.std.specs.Cmp.Lexicographic.{pointwise}
 use Rattle.dns_names.specs.Names.{IsLabel, IsName, count, wire}
 use Rattle.sec_sign.specs.declared.tbs_error.TbsError.{TbsError}
 use Rattle.sec_sign.specs.declared.tbs_error.TbsError.TheVariants.{LabelsExceedOwner}
-use Rattle.sec_sign.specs.Signed.{shown}
+use Rattle.sec_sign.specs.Signed.{signed_owner}
 
 -- the rightmost labels of a name are no longer on the wire than all
 length-wire-drop : (n : List (List ℕ)) (j : ℕ) → length (wire (drop j n)) ≤ length (wire n)
@@ -53,7 +53,7 @@ pub wildcard_fits : (n : List (List ℕ)) (labels : ℕ) → IsName n → labels
 wildcard_fits n labels name more = (wildcard_name n labels name more).at_most_255
 
 -- the owner as it is signed is a name
-pub shown_name : (n : List (List ℕ)) (labels : ℕ) (owner : List (List ℕ)) → IsName n → shown n labels ≡ Ok owner
+pub shown_name : (n : List (List ℕ)) (labels : ℕ) (owner : List (List ℕ)) → IsName n → signed_owner n labels ≡ Ok owner
     → IsName owner
 shown_name n labels owner name is = at (nat_lt (count n) labels) (nat_eq (count n) labels) refl refl is
   where

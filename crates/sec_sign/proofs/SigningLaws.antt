@@ -18,13 +18,13 @@ use Rattle.sec_sigdata.specs.Signatures.{SigData}
 use Rattle.sec_sign.specs.declared.sign_error.SignError.{SignError}
 use Rattle.sec_sign.specs.declared.tbs_error.TbsError.{TbsError}
 use Rattle.sec_sign.specs.Causes.{for_set}
-use Rattle.sec_sign.specs.Signed.{set_data, shown, signed, signed_under}
+use Rattle.sec_sign.specs.Signed.{set_data, signed_owner, signed, signed_under}
 use Rattle.sec_sign.specs.Signers.{SignerData}
 use Rattle.sec_sign.specs.Signing.{expiration_of, for_signature, serial_time, tag_to_sign, to_sign}
 use Rattle.sec_sign.specs.Verifying.{Relation, rrsig_verified}
 
 -- a name with its own count of labels is signed as it is
-pub shown_itself : (n : List (List ℕ)) (labels : ℕ) → labels ≡ count n → shown n labels ≡ Ok n
+pub shown_itself : (n : List (List ℕ)) (labels : ℕ) → labels ≡ count n → signed_owner n labels ≡ Ok n
 shown_itself n labels same =
     let up : nat_lt (count n) labels ≡ false = grind (arith, nat_tests) in
     let equal : nat_eq (count n) labels ≡ true = grind (arith, nat_tests) in

@@ -6,7 +6,7 @@ use Rattle.sec_sigdata.specs.declared.sig_input.SigInput.{SigInput}
 use Rattle.sec_sigdata.specs.Signatures.{InputFits}
 use Rattle.dns_rdata.specs.declared.rdata.RData.{RData}
 use Rattle.dns_message.specs.declared.record.Record.{Record}
-use Rattle.sec_sign.specs.Signed.{chosen, set_data, shown, signed}
+use Rattle.sec_sign.specs.Signed.{chosen, set_data, signed_owner, signed}
 
 -- the seven numbers agree, and the signers are the same name
 pub record SameHeader (h g : SigInput) : Type 0 where
@@ -26,7 +26,7 @@ abbrev pub OneReading : Type 0
 OneReading = (h g : SigInput) (n z owner other : List (List ℕ)) (k l : ℕ) (records others : List (Record RData))
     (cs ds : List (List ℕ)) (x y : List ℕ)
     → InputFits h → InputFits g → IsName n → IsName z → k < 2 ^ 16 → l < 2 ^ 16
-    → shown n h.num_labels ≡ Ok owner → shown z g.num_labels ≡ Ok other
+    → signed_owner n h.num_labels ≡ Ok owner → signed_owner z g.num_labels ≡ Ok other
     → set_data n k h.type_covered records ≡ Ok cs → set_data z l g.type_covered others ≡ Ok ds
     → signed h n k records ≡ Ok x → signed g z l others ≡ Ok y
     → (x ≡ y) ↔ (SameHeader h g × (cs ≡ ds)

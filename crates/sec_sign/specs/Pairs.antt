@@ -30,12 +30,12 @@ abbrev pub serial_distance : ℕ → ℕ → ℕ
 serial_distance from to = (to + (2 ^ 32 - from)) % 2 ^ 32
 
 -- whether a serial number is not behind another: less than half of all before it, or the same (RFC 1982 3.2)
-abbrev pub is_up_to : ℕ → ℕ → Bool
-is_up_to from to = nat_lt (serial_distance from to) (2 ^ 31)
+abbrev pub serial_le : ℕ → ℕ → Bool
+serial_le from to = nat_lt (serial_distance from to) (2 ^ 31)
 
 -- whether a moment is within the times of a signature (RFC 4034 3.1.5)
 abbrev pub is_within_times : SigInput → ℕ → Bool
-is_within_times h moment = is_up_to h.sig_inception.0 moment && is_up_to moment h.sig_expiration.0
+is_within_times h moment = serial_le h.sig_inception.0 moment && serial_le moment h.sig_expiration.0
 
 -- ---- keys
 

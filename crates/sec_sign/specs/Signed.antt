@@ -23,8 +23,8 @@ use Rattle.sec_sign.specs.Causes.{for_set}
 
 -- The owner as it is signed, by the count of labels in the RRSIG: itself where it has so many, a `*` in front not
 -- counted, and `*` before so many of its rightmost labels where it has more (RFC 4035 5.3.2).
-abbrev pub shown : List (List ℕ) → ℕ → Result (List (List ℕ)) TbsError
-shown n labels =
+abbrev pub signed_owner : List (List ℕ) → ℕ → Result (List (List ℕ)) TbsError
+signed_owner n labels =
     if nat_lt (count n) labels then Err (LabelsExceedOwner labels (count n))
     else if nat_eq (count n) labels then Ok n
     else Ok (codes "*" ∷ drop (length n - labels) n)
@@ -96,7 +96,7 @@ signed_under owner h k set = set >>= λ cs. Ok (signed_octets owner h k cs)
 -- the string that is signed for a set of a name and a class with these data, or why there is none
 abbrev pub signed_of : SigInput → List (List ℕ) → ℕ → Result (List (List ℕ)) EmitError → Result (List ℕ) TbsError
 signed_of h n k set = do
-  owner ← shown n h.num_labels
+  owner ← signed_owner n h.num_labels
   for_set (signed_under owner h k set)
 
 -- the string that is signed for the set of a name and a class, or why there is none

@@ -1,7 +1,7 @@
 //! The owner that a signature is over (RFC 4035 5.3.2).
 ghost use Rattle.std.specs.Prelude.{◌≡◌, ◌<◌, ◌∷◌, ◌-◌, codes, drop, length, IfOk};
 ghost use Rattle.dns_names.specs.Names.{count, IsName};
-ghost use Rattle.sec_sign.specs.Signed.{shown};
+ghost use Rattle.sec_sign.specs.Signed.{signed_owner};
 
 use crate::tbs_error::TbsError;
 use dns_names::{Label, Name};
@@ -37,7 +37,7 @@ fn wildcard_above(name: &Name, num_labels: u8) -> Name
 ///
 /// `LabelsExceedOwner` exactly where the name has fewer labels.
 pub fn determine_name(name: &Name, num_labels: u8) -> Result<Name, TbsError>
-    ensures exact { result ≡ shown name.now num_labels }
+    ensures exact { result ≡ signed_owner name.now num_labels }
     ensures is_name { IfOk result IsName }
 {
     let owner = name.num_labels();

@@ -5,7 +5,7 @@ ghost use Rattle.sec_codes.specs.KeptKeys.{kept_key};
 ghost use Rattle.sec_keydata.specs.DnsKeys.{dnskey_data};
 ghost use Rattle.sec_keydata.specs.KeyTags.{dnskey_tag};
 ghost use Rattle.sec_sigdata.specs.Signatures.{rrsig_data};
-ghost use Rattle.sec_sign.specs.Pairs.{is_up_to, is_within_times, is_under, covers_set, names_key};
+ghost use Rattle.sec_sign.specs.Pairs.{serial_le, is_within_times, is_under, covers_set, names_key};
 ghost use Rattle.sec_sign.specs.Pairs.{may_sign, is_authentic, is_tag, rrsig_of, met_by, pair_verdict, set_verdict};
 
 use crate::canonical_set::CanonicalSet;
@@ -33,8 +33,8 @@ pub enum PairVerdict {
 }
 
 /// Whether a serial number is not behind another.
-fn is_up_to(from: u32, to: u32) -> bool
-    ensures { result ≡ is_up_to from to }
+fn serial_le(from: u32, to: u32) -> bool
+    ensures { result ≡ serial_le from to }
 {
     to.wrapping_sub(from) < 0x8000_0000
 }
@@ -43,7 +43,7 @@ fn is_up_to(from: u32, to: u32) -> bool
 fn is_within_times(input: &SigInput, moment: u32) -> bool
     ensures { result ≡ is_within_times input.now moment }
 {
-    is_up_to(input.sig_inception.0, moment) && is_up_to(moment, input.sig_expiration.0)
+    serial_le(input.sig_inception.0, moment) && serial_le(moment, input.sig_expiration.0)
 }
 
 /// Whether an RRSIG with this owner, this class and these fields is one of the set.

@@ -16,22 +16,22 @@ use Rattle.sec_sigdata.proofs.TsigNames.{one_wire}
 use Rattle.std.proofs.lemmas.Slice.Eq.{bytes_eq-Decides}
 use Rattle.sec_tsig.specs.declared.verify_error.VerifyError.{VerifyError}
 use Rattle.sec_tsig.specs.declared.verify_error.VerifyError.TheVariants as causes
-use Rattle.sec_tsig.specs.Verdict.{Chain, advanced, checked_mac, expected_mac, has_signers_key, is_in_time, is_response}
-use Rattle.sec_tsig.specs.Verdict.{judged, signature_verdict, with_signature}
+use Rattle.sec_tsig.specs.Verdict.{TsigChain, advanced, checked_mac, expected_mac, has_signers_key, is_in_time, is_response}
+use Rattle.sec_tsig.specs.Verdict.{with_tsig, signature_verdict, with_signature}
 use Rattle.sec_tsig.specs.Laws.{IsNoMessage, VerdictIsByMessage, NoMessageIsDecode, IsValidResponse, ValidIsAccepted}
 use Rattle.sec_tsig.specs.Laws.{AcceptedIsValid}
 use Rattle.sec_tsig.specs.Signers.{Signer, algorithm_name}
 
 pub verdict_by_message : VerdictIsByMessage
 verdict_by_message chain octets message e stands =
-    ap (judged (signature_verdict chain octets)) (message_read rdata_table octets message e stands)
+    ap (with_tsig (signature_verdict chain octets)) (message_read rdata_table octets message e stands)
 
 -- no message stands, so that reading gives none
 unread : (octets : List ℕ) → IsNoMessage octets → (x : Message × ℕ) → message_at rdata_table octets ≡ Ok x → ⊥
 unread octets none x is = none x.0 x.1 (message_stands rdata_table octets x.0 x.1 is)
 
 undecoded : {X : Type 0} (found : Header → Signature → Result X VerifyError) (read : Result (Message × ℕ) DecodeError)
-    → ((x : Message × ℕ) → read ≡ Ok x → ⊥) → judged found read ≡ Err causes.Decode
+    → ((x : Message × ℕ) → read ≡ Ok x → ⊥) → with_tsig found read ≡ Err causes.Decode
 undecoded found (Ok x) none = absurd (none x refl)
 undecoded found (Err e) none = refl
 
@@ -64,7 +64,7 @@ mac_is_right length-hmac signer previous first m header s owner algorithm mac =
     rw (key, long, right) refl
 
 -- the verdict where no cause holds
-passes : (chain : Chain) (m : List ℕ) (header : Header) (s : Signature)
+passes : (chain : TsigChain) (m : List ℕ) (header : Header) (s : Signature)
     → checked_mac chain.signer (Some chain.mac) chain.first m header s ≡ Ok s.tsig.mac
     → is_in_time chain s ≡ true → is_response header ≡ true
     → signature_verdict chain m header s ≡ Ok (advanced chain s.tsig.mac s.tsig.time)
@@ -84,7 +84,7 @@ valid_is_accepted length-hmac chain m s v =
 -- ---- accepted octets
 
 -- the verdict as tests
-abbrev sieve : Bool → Bool → Bool → Bool → Bool → List ℕ → (List ℕ → Chain) → Result Chain VerifyError
+abbrev sieve : Bool → Bool → Bool → Bool → Bool → List ℕ → (List ℕ → TsigChain) → Result TsigChain VerifyError
 sieve key short right time response mac behind =
     (if not key then Err causes.TsigWrongKey
     else if short then Err causes.TruncatedMac
@@ -94,14 +94,14 @@ sieve key short right time response mac behind =
     else if not response then Err causes.NotAResponse
     else Ok (behind mac)
 
-record Sieved (a b d t q : Bool) (x : List ℕ) (f : List ℕ → Chain) (z : Chain) : Type 0 where
+record Sieved (a b d t q : Bool) (x : List ℕ) (f : List ℕ → TsigChain) (z : TsigChain) : Type 0 where
   pub key : a ≡ true
   pub right : d ≡ true
   pub time : t ≡ true
   pub response : q ≡ true
   pub is_behind : z ≡ f x
 
-sieved : (key short right time response : Bool) (mac : List ℕ) (behind : List ℕ → Chain) (next : Chain)
+sieved : (key short right time response : Bool) (mac : List ℕ) (behind : List ℕ → TsigChain) (next : TsigChain)
     → sieve key short right time response mac behind ≡ Ok next → Sieved key short right time response mac behind next
 sieved true false true true true mac behind next e = record {
   key = refl;
@@ -117,7 +117,7 @@ sieved true false true false response mac behind next e = absurd cc
 sieved true false true true false mac behind next e = absurd cc
 
 -- the verdict on a message with this TSIG, where it is a chain
-verdict_sieved : (chain next : Chain) (m : List ℕ) (header : Header) (s : Signature)
+verdict_sieved : (chain next : TsigChain) (m : List ℕ) (header : Header) (s : Signature)
     → signature_verdict chain m header s ≡ Ok next
     → Sieved (has_signers_key chain.signer s) (nat_lt (length s.tsig.mac) (mac_len chain.signer.algorithm))
     (bytes_eq s.tsig.mac (expected_mac chain.signer (Some chain.mac) chain.first m header s))
@@ -136,7 +136,7 @@ pub right_true : (a b : Bool) → a && b ≡ true → b ≡ true
 right_true true b e = e
 right_true false b e = absurd cc
 
-valid_of : (chain next : Chain) (m : List ℕ) (message : Message) (e : ℕ) (s : Signature)
+valid_of : (chain next : TsigChain) (m : List ℕ) (message : Message) (e : ℕ) (s : Signature)
     → HasTsig rdata_table m message s e → signature_verdict chain m message.header s ≡ Ok next
     → IsValidResponse chain m s × (next ≡ advanced chain s.tsig.mac s.tsig.time)
 valid_of chain next m message e s has is =
@@ -174,7 +174,7 @@ accepted_is_valid chain next m is = go (message_at rdata_table m) refl is
         (s, v.0, v.1)
 
     go : (read : Result (Message × ℕ) DecodeError) → message_at rdata_table m ≡ read
-        → judged (signature_verdict chain m) read ≡ Ok next
+        → with_tsig (signature_verdict chain m) read ≡ Ok next
         → (s : Signature) × IsValidResponse chain m s × (next ≡ advanced chain s.tsig.mac s.tsig.time)
     go (Err fault) read is = absurd cc
     go (Ok x) read is = with_last x read (signature_of x.0) refl is

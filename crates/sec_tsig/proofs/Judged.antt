@@ -10,23 +10,23 @@ use Rattle.dns_message.specs.Views.{header_view, outline_view, outlined, tsig_vi
 use Rattle.dns_message.proofs.ViewLaws.{has_outline}
 use Rattle.sec_tsig.specs.declared.verify_error.VerifyError.{VerifyError}
 use Rattle.sec_tsig.specs.declared.verify_error.VerifyError.TheVariants as causes
-use Rattle.sec_tsig.specs.Verdict.{judged, with_signature}
+use Rattle.sec_tsig.specs.Verdict.{with_tsig, with_signature}
 use Rattle.sec_tsig.specs.Requests.{is_request, reads_request}
 
 -- a message that is viewed
 pub judged_read : {X : Type 0} (found : Header → Signature → Result X VerifyError) (m : List ℕ) (view : MessageView)
     → outlined (message_at rdata_table m) ≡ Ok (outline_view view)
-    → judged found (message_at rdata_table m)
+    → with_tsig found (message_at rdata_table m)
     ≡ with_signature found (header_view (view_header view)) (option_map tsig_view (view_tsig view))
 judged_read found m view is =
     let has = has_outline m (outline_view view) is in
-    ap (judged found) has.read
+    ap (with_tsig found) has.read
     ∙ ap (λ (y : Outline × ℕ). with_signature found y.0.header y.0.signature) has.same
 
 -- with a TSIG
 pub judged_some : {X : Type 0} (found : Header → Signature → Result X VerifyError) (m : List ℕ) (view : MessageView)
     (tsig : TsigView) → outlined (message_at rdata_table m) ≡ Ok (outline_view view) → view_tsig view ≡ Some tsig
-    → judged found (message_at rdata_table m) ≡ found (header_view (view_header view)) (tsig_view tsig)
+    → with_tsig found (message_at rdata_table m) ≡ found (header_view (view_header view)) (tsig_view tsig)
 judged_some found m view tsig is has =
     judged_read found m view is
     ∙ ap (λ t. with_signature found (header_view (view_header view)) (option_map tsig_view t)) has
@@ -34,7 +34,7 @@ judged_some found m view tsig is has =
 -- without one
 pub judged_none : {X : Type 0} (found : Header → Signature → Result X VerifyError) (m : List ℕ) (view : MessageView)
     → outlined (message_at rdata_table m) ≡ Ok (outline_view view) → view_tsig view ≡ None
-    → judged found (message_at rdata_table m) ≡ Err causes.MissingTsig
+    → with_tsig found (message_at rdata_table m) ≡ Err causes.MissingTsig
 judged_none found m view is has =
     judged_read found m view is
     ∙ ap (λ t. with_signature found (header_view (view_header view)) (option_map tsig_view t)) has
@@ -42,11 +42,11 @@ judged_none found m view is has =
 -- no message
 pub judged_fault : {X : Type 0} (found : Header → Signature → Result X VerifyError) (m : List ℕ) (fault : DecodeError)
     → outlined (message_at rdata_table m) ≡ Err fault
-    → judged found (message_at rdata_table m) ≡ Err causes.Decode
+    → with_tsig found (message_at rdata_table m) ≡ Err causes.Decode
 judged_fault found m fault is = go (message_at rdata_table m) is
   where
     go : (read : Result (Message × ℕ) DecodeError) → outlined read ≡ Err fault
-        → judged found read ≡ Err causes.Decode
+        → with_tsig found read ≡ Err causes.Decode
     go (Ok x) is = absurd cc
     go (Err e) is = refl
 

@@ -15,7 +15,7 @@ use Rattle.sec_tsig.specs.declared.sign_error.TsigSignError.TheVariants as cause
 use Rattle.sec_tsig.specs.declared.verify_error.VerifyError.{VerifyError}
 use Rattle.sec_tsig.specs.Tsig.{TsigRecord}
 use Rattle.sec_tsig.specs.Signers.{Signer, message_id, request_record, signing_record, tsig_by}
-use Rattle.sec_tsig.specs.Verdict.{Chain, advanced, first_chain, judged, verdict, with_signature}
+use Rattle.sec_tsig.specs.Verdict.{TsigChain, advanced, first_chain, with_tsig, verdict, with_signature}
 use Rattle.sec_tsig.specs.Received.{Checked, checked_byte, checked_message}
 use Rattle.sec_tsig.specs.Responses.{Reply, Signed, WithServerTime, WrongMac, WrongKey, is_unsigned, reply_record}
 use Rattle.sec_tsig.specs.Responses.{signed_reply, tells_time}
@@ -55,7 +55,7 @@ request_checked length-hmac signer time octets signed is time_fits joined =
     let after = joined.message in
     let back = is_returned length-hmac signer None true octets time (message_id octets) None [] signed is time_fits
     (omega arith) (omega arith) refl joined in
-    ap (judged (checked_byte signer None true signed)) (message_read rdata_table signed after joined.end joined.stands)
+    ap (with_tsig (checked_byte signer None true signed)) (message_read rdata_table signed after joined.end joined.stands)
     ∙ ap (with_signature (checked_byte signer None true signed) after.header) back.has.is_last
     ∙ ap (λ (r : Result (List ℕ) VerifyError). r >>= answered)
     (mac_is_right length-hmac signer None true signed after.header (signature_behind octets rr) refl refl back.mac)
@@ -68,7 +68,7 @@ request_passes length-hmac signer time octets rr chain signed is given joined =
     let passed = allowed (nat_lt time (2 ^ 48)) (Ok (request_record signer time octets, first_chain signer time octets))
     causes.TimeTooLarge (rr, chain) given in
     let own : request_record signer time octets ≡ rr =
-    ap (λ (y : TsigRecord × Chain). y.0) (is_given _ (rr, chain) passed.1) in
+    ap (λ (y : TsigRecord × TsigChain). y.0) (is_given _ (rr, chain) passed.1) in
     subst (λ (x : TsigRecord). IsJoined octets x signed → checked_message signer None true signed
     ≡ Ok (record { mac = x.tsig.mac; time = time; start = time - signer.fudge; end = time + signer.fudge })) own
     (request_checked length-hmac signer time octets signed is (ltb-true _ _ passed.0)) joined
@@ -76,12 +76,12 @@ request_passes length-hmac signer time octets rr chain signed is given joined =
 -- ---- answers
 
 -- the record by which a chain's signer signs an answer behind the chain's MAC
-abbrev answer_record : Chain → ℕ → ℕ → Option TsigError → List ℕ → List ℕ → TsigRecord
+abbrev answer_record : TsigChain → ℕ → ℕ → Option TsigError → List ℕ → List ℕ → TsigRecord
 answer_record chain time oid error other octets =
     signing_record chain.signer (Some chain.mac) chain.first octets (tsig_by chain.signer time oid error other)
 
 -- such an answer is accepted
-own_accepted : HmacHasLength → (chain : Chain) (time oid : ℕ) (error : Option TsigError) (other octets signed : List ℕ)
+own_accepted : HmacHasLength → (chain : TsigChain) (time oid : ℕ) (error : Option TsigError) (other octets signed : List ℕ)
     → IsSigner chain.signer → time < 2 ^ 48 → optional_error_number error < 2 ^ 16 → length other < 2 ^ 16
     → chain.time ≤ time
     → IsJoined octets (answer_record chain time oid error other octets) signed
@@ -104,7 +104,7 @@ own_accepted length-hmac chain time oid error other octets signed is time_fits e
       response = omega (arith, back.flags, answer.response);
     })
 
-answer_accepted : HmacHasLength → (chain : Chain) (time oid : ℕ) (error : Option TsigError) (other octets : List ℕ)
+answer_accepted : HmacHasLength → (chain : TsigChain) (time oid : ℕ) (error : Option TsigError) (other octets : List ℕ)
     (rr : TsigRecord) (signed : List ℕ)
     → IsSigner chain.signer → time < 2 ^ 48 → optional_error_number error < 2 ^ 16 → length other < 2 ^ 16
     → chain.time ≤ time → answer_record chain time oid error other octets ≡ rr
@@ -125,7 +125,7 @@ reply_given signer request_mac octets tsig rr given =
     (ltb-true _ _ timed.0, is_given _ rr counted.1)
 
 -- an answer to a fresh chain
-reply_accepted : HmacHasLength → (chain : Chain) (signer : Signer) (request_mac : List ℕ) (time oid : ℕ)
+reply_accepted : HmacHasLength → (chain : TsigChain) (signer : Signer) (request_mac : List ℕ) (time oid : ℕ)
     (error : Option TsigError) (other octets : List ℕ) (rr : TsigRecord) (signed : List ℕ)
     → IsSigner chain.signer → IsFresh chain → signer ≡ chain.signer → request_mac ≡ chain.mac
     → optional_error_number error < 2 ^ 16 → length other < 2 ^ 16

@@ -18,7 +18,7 @@ use Rattle.sec_sigdata.specs.TsigRecords.{fields_data}
 use Rattle.sec_sigdata.proofs.TsigData.{data_octets, data_written, data_length}
 use Rattle.sec_tsig.specs.Tsig.{TsigRecord, additional_count, resource_record, written_record}
 use Rattle.sec_tsig.specs.Signers.{algorithm_name, Signer, request_record}
-use Rattle.sec_tsig.specs.Verdict.{Chain, first_chain}
+use Rattle.sec_tsig.specs.Verdict.{TsigChain, first_chain}
 use Rattle.sec_tsig.specs.Requests.{is_request, request_record_len, signed_request}
 use Rattle.sec_tsig.proofs.ByMessage.{HmacHasLength}
 use Rattle.sec_tsig.proofs.Joins.{many, long, joined}
@@ -89,7 +89,7 @@ record_size has signer time octets below = (record_of has signer time octets bel
 
 abbrev signed_if : (signer : Signer) (time : ℕ) (octets : List ℕ) → Bool → Result (List ℕ) EmitError → Bool
 signed_if signer time octets request given =
-    is_some {T = List ℕ × Chain} (cond request (option_map (λ signed. (signed, first_chain signer time octets))
+    is_some {T = List ℕ × TsigChain} (cond request (option_map (λ signed. (signed, first_chain signer time octets))
     (result_ok given)) None)
 
 pub not_request : (signer : Signer) (time : ℕ) (octets : List ℕ) → is_request octets ≡ false
@@ -102,7 +102,7 @@ counted_out signer time octets is =
     ap (signed_if signer time octets (is_request octets)) (many octets (request_record signer time octets) is)
     ∙ either (is_request octets)
   where
-    either : (b : Bool) → is_some (cond b (let none : Option (List ℕ × Chain) = None in none) None) ≡ false
+    either : (b : Bool) → is_some (cond b (let none : Option (List ℕ × TsigChain) = None in none) None) ≡ false
     either true = refl
     either false = refl
 

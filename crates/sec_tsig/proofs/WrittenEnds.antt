@@ -15,7 +15,8 @@ use Rattle.dns_wire.proofs.FieldLaws.{is_ok_same, number_read, number_stands}
 use Rattle.dns_names.specs.Names.{IsName, wire}
 use Rattle.dns_names.specs.Places.{NameAt}
 use Rattle.dns_names.proofs.PlaceLaws.{name_at_complete}
-use Rattle.dns_grammar.specs.Fields.{Two, each_octets, joined}
+use Rattle.dns_wire.specs.Joining.{each_octets, joined}
+use Rattle.dns_grammar.specs.Fields.{Two}
 use Rattle.dns_grammar.specs.Messages as grammar
 use Rattle.dns_grammar.specs.Messages.{Query, ResourceRecord, EachAt, MessageAt, QueryAt, RecordAt, before_last}
 use Rattle.dns_grammar.specs.Messages.{last_additional}
@@ -32,7 +33,8 @@ use Rattle.dns_rdata.specs.RDataTable.{rdata_table}
 use Rattle.dns_message.specs.declared.message.Message.{Message}
 use Rattle.dns_message.specs.declared.query.Query.{Query as HeldQuery}
 use Rattle.dns_message.specs.declared.record.Record.{Record}
-use Rattle.dns_message.specs.MessageWriting.{option_octets, with_rdata, written_message, written_record}
+use Rattle.dns_wire.specs.Joining.{option_octets}
+use Rattle.dns_message.specs.MessageWriting.{with_rdata, written_message, written_record}
 use Rattle.dns_message.specs.MessageWriting.{written_tsig_record}
 use Rattle.dns_message.specs.Parts.{and_last, message_parts, record_view, tsig_record_view, whole}
 use Rattle.dns_message.specs.Views.{query_view}

@@ -6,7 +6,7 @@ use Rattle.dns_wire.specs.declared.encoder.NameEncoding.{NameEncoding}
 use Rattle.dns_wire.specs.declared.error.EmitError.{EmitError}
 use Rattle.dns_wire.specs.declared.error.EmitError.TheVariants.{CountTooLarge}
 use Rattle.dns_wire.specs.Octets.{two_octets}
-use Rattle.dns_grammar.specs.Fields.{joined}
+use Rattle.dns_wire.specs.Joining.{joined}
 use Rattle.dns_grammar.specs.Messages.{Message as grammar_message}
 use Rattle.dns_grammar.specs.MessageWriting.{count_octets, header_octets}
 use Rattle.dns_grammar.proofs.ReadBack.{Joins, joins, ok_octets}

@@ -14,7 +14,7 @@ use Rattle.sec_sigdata.specs.TsigErrors.{optional_error_number}
 use Rattle.sec_tsig.specs.declared.verify_error.VerifyError.TheVariants as causes
 use Rattle.sec_tsig.specs.Tsig.{received_input, IsCounted, TsigRecord, with_record}
 use Rattle.sec_tsig.specs.Signers.{algorithm_name, message_id, Signer, signed_later}
-use Rattle.sec_tsig.specs.Verdict.{Chain, advanced, expected_mac, signature_verdict, verdict, window_start, window_end}
+use Rattle.sec_tsig.specs.Verdict.{TsigChain, advanced, expected_mac, signature_verdict, verdict, window_start, window_end}
 use Rattle.sec_tsig.specs.Verdict.{signed_octets, with_signature}
 use Rattle.sec_tsig.specs.Received.{checked_message}
 use Rattle.sec_tsig.specs.Responses.{Reply, Response, Signed, WithServerTime, response_record}
@@ -27,17 +27,17 @@ IsNoMessage octets = (message : Message) (e : ℕ) → MessageAt rdata_table oct
 
 -- Where a message stands, whatever is behind it, its header and its TSIG decide the verdict.
 abbrev pub VerdictIsByMessage : Type 0
-VerdictIsByMessage = (chain : Chain) (octets : List ℕ) (message : Message) (e : ℕ)
+VerdictIsByMessage = (chain : TsigChain) (octets : List ℕ) (message : Message) (e : ℕ)
     → MessageAt rdata_table octets message e
     → verdict chain octets ≡ with_signature (signature_verdict chain octets) message.header (signature_of message)
 
 -- Where none stands, the verdict is Decode.
 abbrev pub NoMessageIsDecode : Type 0
-NoMessageIsDecode = (chain : Chain) (octets : List ℕ)
+NoMessageIsDecode = (chain : TsigChain) (octets : List ℕ)
     → IsNoMessage octets → verdict chain octets ≡ Err causes.Decode
 
 -- Octets are a valid response for a chain, whose TSIG this is (RFC 8945 5.2 to 5.4).
-pub record IsValidResponse (chain : Chain) (m : List ℕ) (s : Signature) : Type 0 where
+pub record IsValidResponse (chain : TsigChain) (m : List ℕ) (s : Signature) : Type 0 where
   pub message : Message
   pub end : ℕ
   pub has : HasTsig rdata_table m message s end
@@ -55,18 +55,18 @@ pub record IsValidResponse (chain : Chain) (m : List ℕ) (s : Signature) : Type
 
 -- Every valid response is accepted, and moves the chain to its MAC and its time.
 abbrev pub ValidIsAccepted : Type 0
-ValidIsAccepted = (chain : Chain) (m : List ℕ) (s : Signature) → IsValidResponse chain m s
+ValidIsAccepted = (chain : TsigChain) (m : List ℕ) (s : Signature) → IsValidResponse chain m s
     → verdict chain m ≡ Ok (advanced chain s.tsig.mac s.tsig.time)
 
 -- What is accepted is a valid response, and moved the chain so.
 abbrev pub AcceptedIsValid : Type 0
-AcceptedIsValid = (chain next : Chain) (m : List ℕ) → verdict chain m ≡ Ok next
+AcceptedIsValid = (chain next : TsigChain) (m : List ℕ) → verdict chain m ≡ Ok next
     → (s : Signature) × IsValidResponse chain m s × (next ≡ advanced chain s.tsig.mac s.tsig.time)
 
 -- ---- one reading
 
 -- what two accepted messages have in common that have one MAC input
-pub record OneReading (chain other : Chain) (m n : List ℕ) (s t : Signature) : Type 0 where
+pub record OneReading (chain other : TsigChain) (m n : List ℕ) (s t : Signature) : Type 0 where
   pub macs : chain.mac ≡ other.mac
   pub forms : chain.first ≡ other.first
   pub oids : s.tsig.oid ≡ t.tsig.oid
@@ -83,7 +83,7 @@ pub record OneReading (chain other : Chain) (m n : List ℕ) (s t : Signature) :
 -- the same up to their signatures but for the ID that was received, and have the same chains behind them as far as MACs
 -- tell.
 abbrev pub InputHasOneReading : Type 0
-InputHasOneReading = (chain other : Chain) (m n : List ℕ) (s t : Signature)
+InputHasOneReading = (chain other : TsigChain) (m n : List ℕ) (s t : Signature)
     (valid : IsValidResponse chain m s) (valid1 : IsValidResponse other n t)
     → AreOctets m → AreOctets n → IsCounted chain.mac → IsCounted other.mac
     → received_input (Some chain.mac) chain.first m valid.message.header s
@@ -128,7 +128,7 @@ pub record IsJoined (octets : List ℕ) (rr : TsigRecord) (signed : List ℕ) : 
 -- A signed request passes its own check, as a first message with no MAC before it (RFC 8945 5.1, 5.2): the check answers
 -- the MAC, the time and the window of its record. A message in memory is signed as the octets that are written of it.
 abbrev pub RequestPasses : Type 0
-RequestPasses = (signer : Signer) (time : ℕ) (octets : List ℕ) (rr : TsigRecord) (chain : Chain) (signed : List ℕ)
+RequestPasses = (signer : Signer) (time : ℕ) (octets : List ℕ) (rr : TsigRecord) (chain : TsigChain) (signed : List ℕ)
     → IsSigner signer → signed_octets signer time octets ≡ Ok (rr, chain) → IsJoined octets rr signed
     → checked_message signer None true signed
     ≡ Ok (record { mac = rr.tsig.mac; time = time; start = time - signer.fudge; end = time + signer.fudge })
@@ -139,20 +139,20 @@ message_flags octets = from_be_bytes w16 (slice_range octets 2 4)
 
 -- Octets that are signed under this original ID by this record answer the request of a chain: the ID is their own, QR is
 -- set (RFC 1035 4.1.1), and the request was sent within the window (RFC 8945 5.2.3).
-pub record IsAnswer (chain : Chain) (oid : ℕ) (octets : List ℕ) (rr : TsigRecord) : Type 0 where
+pub record IsAnswer (chain : TsigChain) (oid : ℕ) (octets : List ℕ) (rr : TsigRecord) : Type 0 where
   pub id : message_id octets ≡ oid
   pub response : 0x8000 ≤ message_flags octets
   pub from_start : rr.tsig.time - rr.tsig.fudge ≤ chain.request_time
   pub before_end : chain.request_time < rr.tsig.time + rr.tsig.fudge
 
 -- a chain before the first answer, whose MAC is that of the request
-pub record IsFresh (chain : Chain) : Type 0 where
+pub record IsFresh (chain : TsigChain) : Type 0 where
   pub first : chain.first ≡ true
   pub time : chain.time ≡ 0
 
 -- A reply is by the signer of a chain and covers the chain's MAC: one with an error whose number fits its field, or with
 -- none, or one that tells the server's time. A reply to a wrong MAC or under an unknown key has no MAC (RFC 8945 5.3.2).
-abbrev pub IsReplyFor : Chain → Reply → Type 0
+abbrev pub IsReplyFor : TsigChain → Reply → Type 0
 IsReplyFor chain (Signed signer request_mac error) =
     (signer ≡ chain.signer) × (request_mac ≡ chain.mac) × (optional_error_number error < 2 ^ 16)
 IsReplyFor chain (WithServerTime signer request_mac server_time) = (signer ≡ chain.signer) × (request_mac ≡ chain.mac)
@@ -160,7 +160,7 @@ IsReplyFor chain _ = ⊥
 
 -- A signed response passes a fresh verifier (RFC 8945 5.3, 5.4).
 abbrev pub ResponsePasses : Type 0
-ResponsePasses = (chain : Chain) (response : Response) (octets : List ℕ) (rr : TsigRecord) (signed : List ℕ)
+ResponsePasses = (chain : TsigChain) (response : Response) (octets : List ℕ) (rr : TsigRecord) (signed : List ℕ)
     → IsSigner chain.signer → IsFresh chain → IsReplyFor chain response.reply
     → response_record response octets ≡ Ok rr
     → IsJoined octets rr signed → IsAnswer chain response.request_id octets rr
@@ -168,7 +168,7 @@ ResponsePasses = (chain : Chain) (response : Response) (octets : List ℕ) (rr :
 
 -- A later response passes next, where it is not signed before the last one (RFC 8945 5.3.1).
 abbrev pub LaterPasses : Type 0
-LaterPasses = (chain : Chain) (id time : ℕ) (octets : List ℕ) (rr : TsigRecord) (signed : List ℕ)
+LaterPasses = (chain : TsigChain) (id time : ℕ) (octets : List ℕ) (rr : TsigRecord) (signed : List ℕ)
     → IsSigner chain.signer → chain.first ≡ false → chain.time ≤ time
     → signed_later chain.signer chain.mac octets id time ≡ Ok rr
     → IsJoined octets rr signed → IsAnswer chain id octets rr

@@ -3,7 +3,7 @@ pub mod RecordBuffers
 pub mod Tsig
 pub mod Signers
 pub mod Verdict
-pub mod Told
+pub mod Notices
 pub mod Received
 pub mod Views
 pub mod MessageSigning

@@ -10,7 +10,7 @@ use Rattle.sec_tsig.specs.declared.sign_error.TsigSignError.{TsigSignError}
 use Rattle.sec_tsig.specs.declared.sign_error.TsigSignError.TheVariants as causes
 use Rattle.sec_tsig.specs.Tsig.{TsigRecord}
 use Rattle.sec_tsig.specs.Signers.{Signer}
-use Rattle.sec_tsig.specs.Verdict.{Chain, signed_octets}
+use Rattle.sec_tsig.specs.Verdict.{TsigChain, signed_octets}
 
 -- the opcodes of NOTIFY (RFC 1996 3.2) and UPDATE (RFC 2136 1.3)
 abbrev pub notify : ℕ
@@ -31,6 +31,6 @@ should_sign message =
 
 -- The record that signs a message that is written as these octets, and the chain before the first answer to it; or the
 -- cause why the message can't be written, and then why its octets can't be signed.
-abbrev pub signed_message : Signer → ℕ → Result (List ℕ) EmitError → Result (TsigRecord × Chain) TsigSignError
+abbrev pub signed_message : Signer → ℕ → Result (List ℕ) EmitError → Result (TsigRecord × TsigChain) TsigSignError
 signed_message signer time (Ok octets) = signed_octets signer time octets
 signed_message signer time (Err cause) = Err (causes.Message cause)

@@ -14,7 +14,7 @@ use Rattle.sec_tsig.specs.declared.verify_error.VerifyError.{VerifyError}
 use Rattle.sec_tsig.specs.declared.verify_error.VerifyError.TheVariants as causes
 use Rattle.sec_tsig.specs.Tsig.{received_input, TsigRecord}
 use Rattle.sec_tsig.specs.Signers.{Signer}
-use Rattle.sec_tsig.specs.Verdict.{checked_mac, window_start, window_end, judged}
+use Rattle.sec_tsig.specs.Verdict.{checked_mac, window_start, window_end, with_tsig}
 
 -- a MAC, the time signed, and the window: its first second, and the one behind its last
 pub record Checked : Type 0 where
@@ -31,7 +31,7 @@ checked_byte signer previous first m header s =
 
 -- the same of octets
 abbrev pub checked_message : Signer → Option (List ℕ) → Bool → List ℕ → Result Checked VerifyError
-checked_message signer previous first m = judged (checked_byte signer previous first m) (message_at rdata_table m)
+checked_message signer previous first m = with_tsig (checked_byte signer previous first m) (message_at rdata_table m)
 
 -- ---- the octets under the MAC, and the record
 

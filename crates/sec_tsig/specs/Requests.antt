@@ -15,7 +15,7 @@ use Rattle.sec_digest.specs.declared.mac.Mac.{Mac}
 use Rattle.sec_digest.specs.Hmac.{mac_len}
 use Rattle.sec_digest.specs.Mac.{mac_octets}
 use Rattle.sec_tsig.specs.Signers.{algorithm_name, Signer, request_record}
-use Rattle.sec_tsig.specs.Verdict.{Chain, first_chain}
+use Rattle.sec_tsig.specs.Verdict.{TsigChain, first_chain}
 
 -- whether octets that read as this message, which ends there, are a request: all of them belong to it, and no
 -- transaction signature is its last additional record
@@ -29,7 +29,7 @@ is_request octets = reads_request octets (message_at rdata_table octets)
 
 -- The signed request of these octets, and the chain before the first answer to it. There is none where the octets are
 -- no request, where they have 65,535 additional records, and where the signed request has more than 65,535 octets.
-abbrev pub signed_request : Signer → ℕ → List ℕ → Option (List ℕ × Chain)
+abbrev pub signed_request : Signer → ℕ → List ℕ → Option (List ℕ × TsigChain)
 signed_request signer time octets =
     if is_request octets then
     option_map (λ signed. (signed, first_chain signer time octets))
@@ -63,7 +63,7 @@ placed_in room octets = if nat_lt (length room) (length octets) then room else o
 
 -- Ok tells the length of what the definition gives, and put it to the room where that is long enough; the MAC is that of
 -- the chain before the first answer. A refusal is the definition's, and left the room as it was.
-abbrev pub SignsTo : Result (ℕ × Mac) RequestError → List ℕ → List ℕ → Chain → Result (List ℕ) RequestError → Type 0
+abbrev pub SignsTo : Result (ℕ × Mac) RequestError → List ℕ → List ℕ → TsigChain → Result (List ℕ) RequestError → Type 0
 SignsTo (Ok signed) old new chain given =
     (octets : List ℕ) × (given ≡ Ok octets) × (signed.0 ≡ length octets) × (new ≡ placed_in old octets)
     × (mac_octets signed.1 ≡ chain.mac)

@@ -17,7 +17,7 @@ use Rattle.sec_tsig.specs.Signers.{algorithm_name, Signer, signing_mac, request_
 
 -- What stands of a request and the answers accepted so far: who signs, the time of the request, the last MAC, the last
 -- time signed, and whether the next answer is the first.
-pub record Chain : Type 0 where
+pub record TsigChain : Type 0 where
   pub signer : Signer
   pub request_time : ℕ
   pub mac : List ℕ
@@ -25,7 +25,7 @@ pub record Chain : Type 0 where
   pub first : Bool
 
 -- the chain before the first answer to a request
-abbrev pub first_chain : Signer → ℕ → List ℕ → Chain
+abbrev pub first_chain : Signer → ℕ → List ℕ → TsigChain
 first_chain signer time octets = record {
   signer = signer;
   request_time = time;
@@ -35,7 +35,7 @@ first_chain signer time octets = record {
 }
 
 -- the record that signs a request, and the chain before the first answer to it
-abbrev pub signed_octets : Signer → ℕ → List ℕ → Result (TsigRecord × Chain) TsigSignError
+abbrev pub signed_octets : Signer → ℕ → List ℕ → Result (TsigRecord × TsigChain) TsigSignError
 signed_octets signer time octets =
     if nat_lt time (2 ^ 48) then Ok (request_record signer time octets, first_chain signer time octets)
     else Err TimeTooLarge
@@ -72,7 +72,7 @@ abbrev pub window_end : Signature → ℕ
 window_end signature = signature.tsig.time + signature.tsig.fudge
 
 -- whether the message was not signed before the last one, and the request was sent within its window (RFC 8945 5.2.3)
-abbrev pub is_in_time : Chain → Signature → Bool
+abbrev pub is_in_time : TsigChain → Signature → Bool
 is_in_time chain signature =
     nat_le chain.time signature.tsig.time
     && nat_le (window_start signature) chain.request_time
@@ -83,11 +83,11 @@ abbrev pub is_response : Header → Bool
 is_response header = nat_le 0x8000 header.flags
 
 -- the chain behind an accepted answer of this MAC and this time
-abbrev pub advanced : Chain → List ℕ → ℕ → Chain
+abbrev pub advanced : TsigChain → List ℕ → ℕ → TsigChain
 advanced chain mac time = record chain { mac = mac; time = time; first = false }
 
 -- the verdict on a message with this TSIG
-unfoldable pub signature_verdict : Chain → List ℕ → Header → Signature → Result Chain VerifyError
+unfoldable pub signature_verdict : TsigChain → List ℕ → Header → Signature → Result TsigChain VerifyError
 signature_verdict chain m header signature =
     checked_mac chain.signer (Some chain.mac) chain.first m header signature >>= λ mac.
     if not (is_in_time chain signature) then Err causes.Outdated
@@ -101,11 +101,11 @@ abbrev pub with_signature : {X : Type 0} → (Header → Signature → Result X 
 with_signature found header None = Err causes.MissingTsig
 with_signature found header (Some signature) = found header signature
 
-abbrev pub judged : {X : Type 0} → (Header → Signature → Result X VerifyError) → Result (Message × ℕ) DecodeError
+abbrev pub with_tsig : {X : Type 0} → (Header → Signature → Result X VerifyError) → Result (Message × ℕ) DecodeError
     → Result X VerifyError
-judged found (Err _) = Err causes.Decode
-judged found (Ok x) = with_signature found x.0.header (signature_of x.0)
+with_tsig found (Err _) = Err causes.Decode
+with_tsig found (Ok x) = with_signature found x.0.header (signature_of x.0)
 
 -- The verdict on octets: the first cause that holds against them, or the chain behind them, where none does.
-abbrev pub verdict : Chain → List ℕ → Result Chain VerifyError
-verdict chain m = judged (signature_verdict chain m) (message_at rdata_table m)
+abbrev pub verdict : TsigChain → List ℕ → Result TsigChain VerifyError
+verdict chain m = with_tsig (signature_verdict chain m) (message_at rdata_table m)

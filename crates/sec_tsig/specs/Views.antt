@@ -9,25 +9,25 @@ use Rattle.dns_message.specs.declared.response.DnsResponse.{DnsResponse}
 use Rattle.dns_message.specs.OwnedMessages.{IsReadMessage}
 use Rattle.dns_message.specs.Parts.{parts_of}
 use Rattle.dns_message.specs.Responses.{response_octets, response_message, response_parts}
-use Rattle.sec_tsig.specs.declared.chain_step.ChainStep.{ChainStep}
+use Rattle.sec_tsig.specs.declared.tsig_step.TsigStep.{TsigStep}
 use Rattle.sec_tsig.specs.declared.verify_error.VerifyError.{VerifyError}
 use Rattle.sec_tsig.specs.declared.verify_error.VerifyError.TheVariants as causes
 use Rattle.std.specs.declared.ops.Range.{Range}
 use Rattle.std.specs.Global.{Vec}
-use Rattle.sec_tsig.specs.Verdict.{Chain, advanced}
+use Rattle.sec_tsig.specs.Verdict.{TsigChain, advanced}
 use Rattle.sec_tsig.specs.Received.{Checked}
 
 -- the chain behind an accepted answer
-abbrev pub stepped : Chain → ChainStep → Chain
+abbrev pub stepped : TsigChain → TsigStep → TsigChain
 stepped chain step = advanced chain (mac_octets step.mac) step.time
 
 -- the answer is the verdict; Ok moved the chain, and a refusal left it as it was
-abbrev pub MovesChain : {X : Type 0} → Result X VerifyError → Chain → Chain → Result Chain VerifyError → Type 0
+abbrev pub MovesChain : {X : Type 0} → Result X VerifyError → TsigChain → TsigChain → Result TsigChain VerifyError → Type 0
 MovesChain (Ok _) old new verdict = verdict ≡ Ok new
 MovesChain (Err cause) old new verdict = (verdict ≡ Err cause) × (new ≡ old)
 
 -- the same, but that want of memory may come in place of any answer
-abbrev pub MovesChainUnless : {X : Type 0} → Result X VerifyError → Chain → Chain → Result Chain VerifyError → Type 0
+abbrev pub MovesChainUnless : {X : Type 0} → Result X VerifyError → TsigChain → TsigChain → Result TsigChain VerifyError → Type 0
 MovesChainUnless (Ok _) old new verdict = verdict ≡ Ok new
 MovesChainUnless (Err cause) old new verdict = ((cause ≡ causes.OutOfMemory) ⊎ (verdict ≡ Err cause)) × (new ≡ old)
 

@@ -5,13 +5,13 @@ ghost use Rattle.dns_wire.specs.Reading.{Gives};
 ghost use Rattle.dns_grammar.specs.Messages.{Message as message_of_octets, message_at};
 ghost use Rattle.dns_rdata.specs.RDataTable.{rdata_table};
 ghost use Rattle.dns_message.specs.Views.{header_view, tsig_view, IsPlaced, TsigViewFits};
-ghost use Rattle.sec_tsig.specs.Told.{bad_time, step_told, time_of_octets, told_by, told_error, told_time, told_with};
+ghost use Rattle.sec_tsig.specs.Notices.{bad_time, step_notice, time_of_octets, notice_by, notice_error, notice_time, notice_with};
 ghost use Rattle.sec_tsig.specs.Tsig.{IsCounted};
 ghost use Rattle.sec_tsig.specs.Verdict.{is_in_time, signature_verdict, verdict};
 ghost use Rattle.sec_tsig.specs.Views.{stepped};
 
 use crate::borrowed_signer::BorrowedSigner;
-use crate::chain_step::ChainStep;
+use crate::tsig_step::TsigStep;
 use crate::verify_error::VerifyError;
 use dns_message::{Header, MessageView, TsigView};
 use dns_wire::BinDecoder;
@@ -35,8 +35,8 @@ fn time_of_octets(octets: &[u8]) -> Option<u64>
 }
 
 /// The error and the server's time that a TSIG tells, which may be that of a first answer.
-fn told(first: bool, tsig: &TsigView<'_>) -> (u16, Option<u64>)
-    ensures { result ≡ (told_error first (Some (tsig_view tsig.now)), told_time first (Some (tsig_view tsig.now))) }
+fn notice(first: bool, tsig: &TsigView<'_>) -> (u16, Option<u64>)
+    ensures { result ≡ (notice_error first (Some (tsig_view tsig.now)), notice_time first (Some (tsig_view tsig.now))) }
 {
     if !first {
         return (0, None);
@@ -49,7 +49,7 @@ fn told(first: bool, tsig: &TsigView<'_>) -> (u16, Option<u64>)
 }
 
 /// What stands of a request and the answers accepted so far, the signer and the last MAC borrowed: what checks the next
-/// answer without memory. A contract sees it as a `Chain`.
+/// answer without memory. A contract sees it as a `TsigChain`.
 #[derive(Drop)]
 pub struct BorrowedVerifier<'a> {
     signer: BorrowedSigner<'a>,
@@ -61,9 +61,9 @@ pub struct BorrowedVerifier<'a> {
 
 impl<'a> Model for BorrowedVerifier<'a> {
     ghost use Rattle.sec_tsig.specs.Tsig.{IsCounted};
-    ghost use Rattle.sec_tsig.specs.Verdict.{Chain};
+    ghost use Rattle.sec_tsig.specs.Verdict.{TsigChain};
 
-    ghost Value = { Chain };
+    ghost Value = { TsigChain };
 
     ghost view = { λ s. record {
       signer = s.signer;
@@ -122,12 +122,12 @@ impl<'a> BorrowedVerifier<'a> {
         octets: &[u8],
         header: &Header,
         tsig: &TsigView<'_>,
-    ) -> Result<ChainStep, VerifyError>
+    ) -> Result<TsigStep, VerifyError>
         requires { IsPlaced octets.now header.now tsig.now }
         ensures exact { Gives (λ step. stepped self.now step) result
             (signature_verdict self.now octets.now (header_view header.now) (tsig_view tsig.now)) }
-        ensures told { IfOk result (λ step. step_told step
-            ≡ told_with self.now.first (header_view header.now) (Some (tsig_view tsig.now))) }
+        ensures notice { IfOk result (λ step. step_notice step
+            ≡ notice_with self.now.first (header_view header.now) (Some (tsig_view tsig.now))) }
         ensures never { result ≢ Err VerifyError.OutOfMemory }
     {
         let previous = Some(self.mac);
@@ -140,8 +140,8 @@ impl<'a> BorrowedVerifier<'a> {
         if header.flags < 0x8000 {
             return Err(VerifyError::NotAResponse);
         }
-        let (tsig_error, server_time) = told(self.first, tsig);
-        Ok(ChainStep {
+        let (tsig_error, server_time) = notice(self.first, tsig);
+        Ok(TsigStep {
             mac,
             time: tsig.time,
             tsig_error,
@@ -158,10 +158,10 @@ impl<'a> BorrowedVerifier<'a> {
     /// `Decode` where the octets are no message, more than 65,535 octets among them; octets behind the message are no
     /// fault. Then `MissingTsig`, `TsigWrongKey`, `TruncatedMac`, `HmacInvalid`, `Outdated` or `NotAResponse`, the first
     /// that holds. Never `OutOfMemory`.
-    pub fn verdict(&self, octets: &[u8]) -> Result<ChainStep, VerifyError>
+    pub fn verdict(&self, octets: &[u8]) -> Result<TsigStep, VerifyError>
         ensures verdict { Gives (λ step. stepped self.now step) result (verdict self.now octets.now) }
-        ensures told { IfOk result (λ step. (message : message_of_octets) (e : ℕ)
-            → message_at rdata_table octets.now ≡ Ok (message, e) → step_told step ≡ told_by self.now.first message) }
+        ensures notice { IfOk result (λ step. (message : message_of_octets) (e : ℕ)
+            → message_at rdata_table octets.now ≡ Ok (message, e) → step_notice step ≡ notice_by self.now.first message) }
         ensures never { result ≢ Err VerifyError.OutOfMemory }
     {
         let Ok(view) = MessageView::parse(octets) else {

@@ -4,20 +4,20 @@ ghost use Rattle.dns_wire.specs.Reading.{Gives};
 ghost use Rattle.dns_grammar.specs.Messages.{Message as message_of_octets, message_at};
 ghost use Rattle.dns_rdata.specs.RDataTable.{rdata_table};
 ghost use Rattle.sec_digest.specs.Mac.{mac_octets};
-ghost use Rattle.sec_tsig.specs.Told.{step_told, told_by};
+ghost use Rattle.sec_tsig.specs.Notices.{step_notice, notice_by};
 ghost use Rattle.sec_tsig.specs.Views.{stepped, IsResponseOf, MovesChain, MovesChainUnless};
 ghost use Rattle.sec_tsig.specs.Verdict.{verdict};
 
 use crate::borrowed_verifier::BorrowedVerifier;
-use crate::chain_step::ChainStep;
 use crate::signer::TSigner;
+use crate::tsig_step::TsigStep;
 use crate::verify_error::VerifyError;
 use dns_message::DnsResponse;
 use sec_digest::Mac;
 use std::marker::Model;
 
 /// Checks the answers to a signed request, one behind the other: who signs, the time of the request, the last MAC, the
-/// last time signed, and whether the next answer is the first. A contract sees it as a `Chain`.
+/// last time signed, and whether the next answer is the first. A contract sees it as a `TsigChain`.
 #[derive(Debug, Drop)]
 pub struct TSigVerifier {
     signer: TSigner,
@@ -28,10 +28,10 @@ pub struct TSigVerifier {
 }
 
 impl Model for TSigVerifier {
-    ghost use Rattle.sec_tsig.specs.Verdict.{Chain};
+    ghost use Rattle.sec_tsig.specs.Verdict.{TsigChain};
     ghost use Rattle.sec_digest.specs.Mac.{mac_octets};
 
-    ghost Value = { Chain };
+    ghost Value = { TsigChain };
 
     ghost view = { λ s. record {
       signer = s.signer;
@@ -88,17 +88,17 @@ impl TSigVerifier {
     /// # Errors
     ///
     /// Those of `BorrowedVerifier::verdict`. Never `OutOfMemory`.
-    pub fn verdict(&self, octets: &[u8]) -> Result<ChainStep, VerifyError>
+    pub fn verdict(&self, octets: &[u8]) -> Result<TsigStep, VerifyError>
         ensures verdict { Gives (λ step. stepped self.now step) result (verdict self.now octets.now) }
-        ensures told { IfOk result (λ step. (message : message_of_octets) (e : ℕ)
-            → message_at rdata_table octets.now ≡ Ok (message, e) → step_told step ≡ told_by self.now.first message) }
+        ensures notice { IfOk result (λ step. (message : message_of_octets) (e : ℕ)
+            → message_at rdata_table octets.now ≡ Ok (message, e) → step_notice step ≡ notice_by self.now.first message) }
         ensures never { result ≢ Err VerifyError.OutOfMemory }
     {
         self.borrowed().verdict(octets)
     }
 
     /// Moves the chain behind an answer on which the verdict gave this step.
-    pub fn advance(&mut self, step: ChainStep)
+    pub fn advance(&mut self, step: TsigStep)
         ensures { self.new ≡ stepped self.old step }
     {
         self.mac = step.mac;

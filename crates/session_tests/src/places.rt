@@ -3,9 +3,9 @@
 use crate::fixtures::{joined, octets_of};
 use dns_message::Section;
 use dns_names::Name;
-use dns_places::{DataBuffer, DataError, RecordPlace, RecordWalk, canonical_data};
 use dns_types::{DNSClass, RecordType};
-use sec_places::{InputError, signed_input};
+use message_walk::{DataBuffer, DataError, RecordPlace, RecordWalk, canonical_data};
+use rrsig_input::{InputError, signed_input};
 use std::alloc::Global;
 use std::test::Fail;
 

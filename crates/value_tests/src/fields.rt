@@ -1,5 +1,5 @@
 //! A field of the test's own among those of record data, and the checks that take one.
-use dns_grammar::{FieldForm, TestedField, check_row};
+use dns_grammar::{FieldKind, TestedField, check_row};
 use dns_wire::{BinDecoder, DecodeError};
 use std::test::Fail;
 
@@ -24,11 +24,11 @@ impl TestedField for Protocol {
 }
 
 /// Flags, protocol, algorithm and key (RFC 4034 section 2.1).
-const DNSKEY: [FieldForm<Protocol>; 4] = [
-    FieldForm::U16,
-    FieldForm::Tested(Protocol),
-    FieldForm::U8,
-    FieldForm::Octets,
+const DNSKEY: [FieldKind<Protocol>; 4] = [
+    FieldKind::U16,
+    FieldKind::Tested(Protocol),
+    FieldKind::U8,
+    FieldKind::Octets,
 ];
 
 #[test]

@@ -1,8 +1,8 @@
-//! Names as keys of maps, as labels, and through a table of jumps (RFC 1035 section 4.1.4).
+//! Names as keys of maps, as labels, and through a pointer cache (RFC 1035 section 4.1.4).
 ghost use Rattle.std.specs.Prelude.{◌≤◌, length};
-ghost use Rattle.dns_names.specs.Jumps.{AreJumps};
+ghost use Rattle.dns_names.specs.PointerCache.{IsPointerCache};
 
-use dns_names::{Label, Name, with_jumps};
+use dns_names::{Label, Name, with_pointer_cache};
 use dns_wire::{BinDecoder, DecodeError};
 use std::collections::{BTreeMap, BTreeSet};
 use std::test::Fail;
@@ -39,28 +39,28 @@ fn labels_make_names_and_come_back(rt: HostRuntime) -> Result<(), Fail> {
 fn second_name(
     message: &[u8],
     place: usize,
-    jumps: &mut [u16],
+    cache: &mut [u16],
 ) -> Result<(Name, usize), DecodeError>
     requires at { place ≤ length message.now }
-    requires jumps { AreJumps message.now jumps.old }
+    requires cache { IsPointerCache message.now cache.old }
 {
     let mut decoder = BinDecoder::new(message);
     decoder.set_index(place);
     let end = message.len();
-    Name::skip_with(&mut decoder, end, jumps)?;
-    let name = Name::read_with(&mut decoder, end, jumps)?;
+    Name::skip_with(&mut decoder, end, cache)?;
+    let name = Name::read_with(&mut decoder, end, cache)?;
     Ok((name, decoder.index()))
 }
 
 #[test]
-fn names_are_read_through_a_table_of_jumps(rt: HostRuntime) -> Result<(), Fail> {
+fn names_are_read_through_a_pointer_cache(rt: HostRuntime) -> Result<(), Fail> {
     // `a` at 0 and three pointers, each to the one before; then `b.a` twice, each by the last pointer
     let mut octets = [0u8; 513];
     octets[..9].copy_from_slice(b"\x01a\x00\xc0\x00\xc0\x03\xc0\x05");
     octets[9..17].copy_from_slice(b"\x01b\xc0\x07\x01b\xc0\x07");
     // a message with a small table, and one with a large table
     for message in [&octets[..17], &octets[..]] {
-        let (name, next) = with_jumps(message, |jumps| second_name(message, 9, jumps))?;
+        let (name, next) = with_pointer_cache(message, |cache| second_name(message, 9, cache))?;
         assert!(rt; name == Name::from_ascii("b.a")?);
         assert_eq!(rt; next, 17);
     }

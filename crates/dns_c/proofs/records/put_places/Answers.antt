@@ -1,6 +1,6 @@
 use Rattle.std.proofs.Common.{◌≡◌, ◌∙◌, ℕ, suc, ◌+◌, List, ◌∷◌, drop, sym, ap, subst, arith}
 use Rattle.std.specs.Prelude.{slice_set}
-use Rattle.dns_names.specs.Jumps.{AreJumps}
+use Rattle.dns_names.specs.PointerCache.{IsPointerCache}
 use Rattle.dns_c.specs.declared.records.PspRecord.{PspRecord}
 use Rattle.dns_c.proofs.PlacesPut.{all_put, first_put, left_behind, one_more}
 use Rattle.dns_c.proofs.records.put_places.Goals as goal
@@ -23,7 +23,7 @@ records-preserved c =
           ∙ ap (first_put before all) more;
       few = omega (arith, behind.0);
       same = c.in-Some.ensures.message ∙ c.records.invariant.same;
-      jumps = subst (λ (m : List ℕ). AreJumps m c.next.new.jumps) (sym c.in-Some.ensures.message) c.in-Some.ensures.jumps;
+      cache = subst (λ (m : List ℕ). IsPointerCache m c.next.new.cache) (sym c.in-Some.ensures.message) c.in-Some.ensures.cache;
     }
 
 pub returns : goal.returns

@@ -1,5 +1,5 @@
 use Rattle.std.proofs.Common.{◌≡◌, ◌≤◌, drop, length}
-use Rattle.dns_names.specs.Jumps.{AreJumps}
+use Rattle.dns_names.specs.PointerCache.{IsPointerCache}
 use Rattle.dns_c.proofs.PlacesPut.{first_put}
 use Rattle.dns_c.proofs.records.put_places.Given as goal
 
@@ -9,7 +9,7 @@ invariant-records l = record {
   written : l.out ≡ first_put l.initial.out l.fn.walk.left l.count;
   few : l.count ≤ length l.fn.walk.left;
   same : l.walk.message ≡ l.fn.walk.message;
-  jumps : AreJumps l.walk.message l.jumps;
+  cache : IsPointerCache l.walk.message l.cache;
 }
 
 abbrev pub decreases-records : goal.decreases-records

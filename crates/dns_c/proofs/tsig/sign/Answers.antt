@@ -1,5 +1,5 @@
 use Rattle.std.proofs.Common.{◌≡◌, ◌∙◌, ℕ, ◌≤◌, true, List, length, ap, arith}
-use Rattle.sec_tsig.specs.Verdict.{Chain, first_chain}
+use Rattle.sec_tsig.specs.Verdict.{TsigChain, first_chain}
 use Rattle.dns_c.specs.Transactions.{chain_for}
 use Rattle.dns_c.proofs.ChainsKept.{signed_told}
 use Rattle.dns_c.proofs.tsig.sign.Goals as goal
@@ -12,7 +12,7 @@ returns-else-out-length c =
     let signs = c.in-Ok.ensures in
     let mac : c.as_slice.result.now ≡ (first_chain signer time request).mac = c.as_slice.ensures.octets ∙ signs.4 in
     let kept : c.behind.result ≡ chain_for (first_chain signer time request) = c.behind.ensures signer
-    ∙ ap (λ (x : List ℕ). let chain : Chain = record {
+    ∙ ap (λ (x : List ℕ). let chain : TsigChain = record {
       signer = signer;
       request_time = time;
       mac = x;

@@ -2,7 +2,7 @@ use Rattle.std.proofs.Common.{sym, subst, ◌∙◌}
 use Rattle.dns_grammar.specs.Messages.{query_at}
 use Rattle.dns_message.specs.Views.{query_view}
 use Rattle.dns_message.proofs.ValuesRead.{value_put}
-use Rattle.dns_names.specs.Jumps.{AreJumps}
+use Rattle.dns_names.specs.PointerCache.{IsPointerCache}
 use Rattle.dns_wire.specs.Reading.{octets, place}
 use Rattle.dns_message.proofs.record_reading.read_queries.Goals as goal
 
@@ -20,5 +20,5 @@ queries-preserved c =
     record {
       left = left;
       same = read.1 ∙ c.queries.invariant.same;
-      jumps = subst (λ m. AreJumps m c.read_with.new.jumps) (sym read.1) c.in_ok-query.ensures.jumps;
+      cache = subst (λ m. IsPointerCache m c.read_with.new.cache) (sym read.1) c.in_ok-query.ensures.cache;
     }

@@ -1,5 +1,5 @@
 use Rattle.std.proofs.Common.{◌≡◌, ◌-◌, map}
-use Rattle.dns_names.specs.Jumps.{AreJumps}
+use Rattle.dns_names.specs.PointerCache.{IsPointerCache}
 use Rattle.dns_wire.specs.Reading.{octets, place}
 use Rattle.dns_grammar.specs.Messages.{queries_at}
 use Rattle.dns_message.specs.Views.{query_view}
@@ -12,5 +12,5 @@ invariant-queries l = record {
   left : after (map query_view l.queries.items) (queries_at (l.count - l.counter) (octets l.reader) (place l.reader))
       ≡ queries_at l.count l.message l.start;
   same : octets l.reader ≡ l.message;
-  jumps : AreJumps (octets l.reader) l.jumps;
+  cache : IsPointerCache (octets l.reader) l.cache;
 }

@@ -9,7 +9,7 @@ use Rattle.dns_message.specs.MessageReading.{unplaced_at}
 use Rattle.dns_message.specs.OwnedMessages.{IsReadRecord}
 use Rattle.dns_message.specs.Parts.{record_view}
 use Rattle.dns_message.proofs.ValuesRead.{value_put, all_put}
-use Rattle.dns_names.specs.Jumps.{AreJumps}
+use Rattle.dns_names.specs.PointerCache.{IsPointerCache}
 use Rattle.dns_wire.specs.Reading.{octets, place}
 use Rattle.dns_message.proofs.record_reading.read_records.Goals as goal
 
@@ -27,7 +27,7 @@ records-preserved c =
     record {
       left = left;
       same = read.1 ∙ c.records.invariant.same;
-      jumps = subst (λ m. AreJumps m c.read_record.new.jumps) (sym read.1) c.in_ok-record.ensures.jumps;
+      cache = subst (λ m. IsPointerCache m c.read_record.new.cache) (sym read.1) c.in_ok-record.ensures.cache;
       as_read = subst (λ (l : List (Record RData)). AllByRecursion IsReadRecord l) (sym c.in_ok-push.ensures.items)
           (all_put IsReadRecord c.records.records.items c.in_ok-record.record c.records.invariant.as_read
           c.in_ok-record.ensures.as_read);

@@ -1,6 +1,6 @@
 use Rattle.std.proofs.Common.{◌≡◌, ◌-◌, map}
 use Rattle.std.specs.List.{AllByRecursion}
-use Rattle.dns_names.specs.Jumps.{AreJumps}
+use Rattle.dns_names.specs.PointerCache.{IsPointerCache}
 use Rattle.dns_wire.specs.Reading.{octets, place}
 use Rattle.dns_message.specs.MessageReading.{others_at}
 use Rattle.dns_message.specs.OwnedMessages.{IsReadRecord}
@@ -14,6 +14,6 @@ invariant-records l = record {
   left : after (map record_view l.records.items) (others_at (l.count - l.counter) (octets l.reader) (place l.reader))
       ≡ others_at l.count l.message l.start;
   same : octets l.reader ≡ l.message;
-  jumps : AreJumps (octets l.reader) l.jumps;
+  cache : IsPointerCache (octets l.reader) l.cache;
   as_read : AllByRecursion IsReadRecord l.records.items;
 }

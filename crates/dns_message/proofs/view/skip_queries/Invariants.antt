@@ -1,5 +1,5 @@
 use Rattle.std.proofs.Common.{◌≡◌, ◌-◌, ◌≤◌}
-use Rattle.dns_names.specs.Jumps.{AreJumps}
+use Rattle.dns_names.specs.PointerCache.{IsPointerCache}
 use Rattle.dns_wire.specs.Reading.{octets, place}
 use Rattle.dns_names.specs.Skipping.{without_value}
 use Rattle.dns_grammar.specs.Messages.{queries_at}
@@ -12,5 +12,5 @@ invariant-queries l = record {
       ≡ without_value (queries_at l.count (octets l.fn.reader) (place l.fn.reader));
   forward : place l.fn.reader ≤ place l.reader;
   same : octets l.reader ≡ octets l.fn.reader;
-  jumps : AreJumps (octets l.reader) l.jumps;
+  cache : IsPointerCache (octets l.reader) l.cache;
 }

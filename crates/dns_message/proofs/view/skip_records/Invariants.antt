@@ -1,5 +1,5 @@
 use Rattle.std.proofs.Common.{◌≡◌, ◌-◌, ◌≤◌}
-use Rattle.dns_names.specs.Jumps.{AreJumps}
+use Rattle.dns_names.specs.PointerCache.{IsPointerCache}
 use Rattle.dns_wire.specs.Reading.{octets, place}
 use Rattle.dns_names.specs.Skipping.{without_value}
 use Rattle.dns_rdata.specs.RDataTable.{rdata_table}
@@ -13,5 +13,5 @@ invariant-records l = record {
       ≡ without_value (records_at rdata_table l.count (octets l.fn.reader) (place l.fn.reader));
   forward : place l.fn.reader ≤ place l.reader;
   same : octets l.reader ≡ octets l.fn.reader;
-  jumps : AreJumps (octets l.reader) l.jumps;
+  cache : IsPointerCache (octets l.reader) l.cache;
 }

@@ -35,4 +35,4 @@ returns c =
     let text : sig_text (rrsig_data c.in_ok-rrsig.rrsig) ≡ string_bytes c.in_ok-to_string.field-0 = search rules in
     signed_first signer c.args.inception c.args.records.items c.in-Some.first.now c.in_ok-set.set here c.requires is
     ∙ ap shown_text made
-    ∙ ap (λ (t : List ℕ). let shown : Result (List ℕ) Refusal = Ok t in shown) text
+    ∙ ap (λ (t : List ℕ). let signed_owner : Result (List ℕ) Refusal = Ok t in signed_owner) text

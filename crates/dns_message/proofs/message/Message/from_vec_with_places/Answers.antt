@@ -4,4 +4,4 @@ use Rattle.dns_message.proofs.message.Message.from_vec_with_places.Goals as goal
 
 pub returns-clause-read : goal.returns-clause-read
 returns-clause-read c =
-    reads_message held standing c.args.octets.now c.read_with_jumps.result c.read_with_jumps.ensures.exact
+    reads_message held standing c.args.octets.now c.read_with_cache.result c.read_with_cache.ensures.exact

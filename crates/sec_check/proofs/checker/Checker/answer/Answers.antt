@@ -3,8 +3,8 @@ use Rattle.dns_grammar.specs.Messages.{Message, message_at}
 use Rattle.dns_rdata.specs.RDataTable.{rdata_table}
 use Rattle.sec_anchor.specs.Entries.{EntryData}
 use Rattle.sec_tsig.specs.declared.verify_error.VerifyError.{VerifyError}
-use Rattle.sec_tsig.specs.Told.{step_told, told_by}
-use Rattle.sec_tsig.specs.Verdict.{Chain, verdict}
+use Rattle.sec_tsig.specs.Notices.{step_notice, notice_by}
+use Rattle.sec_tsig.specs.Verdict.{TsigChain, verdict}
 use Rattle.sec_tsig.specs.Views.{stepped}
 use Rattle.sec_check.specs.Marks.{Trust}
 use Rattle.sec_check.specs.Reports.{CheckerData, answered, report_of, trust_of}
@@ -20,11 +20,11 @@ returns-in-Ok g c =
     let trust : Trust = record { accepts = accepts; moment = moment; entries = c.self.inside.keys } in
     let accepted : verdict chain octets ≡ Ok (stepped chain c.in_ok-step.step) = search rules in
     let advanced : verdict chain octets ≡ Ok c.advance.new.self =
-    accepted ∙ ap (λ (next : Chain). let ok : Result Chain VerifyError = Ok next in ok) (sym c.advance.ensures) in
+    accepted ∙ ap (λ (next : TsigChain). let ok : Result TsigChain VerifyError = Ok next in ok) (sym c.advance.ensures) in
     let told : (m : Message) (e : ℕ) → message_at rdata_table octets ≡ Ok (m, e)
-    → step_told c.in_ok-step.step ≡ told_by chain.first m = search rules in
+    → step_notice c.in_ok-step.step ≡ notice_by chain.first m = search rules in
     let reports : (m : Message) (e : ℕ) → message_at rdata_table octets ≡ Ok (m, e)
-    → step_told c.in_ok-step.step ≡ told_by chain.first m
+    → step_notice c.in_ok-step.step ≡ notice_by chain.first m
     → c.in-Ok.report
     ≡ report_of record { accepts = accepts; moment = moment; entries = c.index.new.self } chain.first m = search rules in (
       subst (λ (checker : CheckerData). answered (trust_of checker accepts moment) checker.chain octets

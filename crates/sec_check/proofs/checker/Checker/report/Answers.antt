@@ -2,7 +2,7 @@ use Rattle.std.proofs.Common.{rules, ◌≡◌, ◌∙◌, ℕ, Ok}
 use Rattle.dns_grammar.specs.Messages.{Message, message_at}
 use Rattle.dns_message.specs.Parts.{parts_of}
 use Rattle.dns_rdata.specs.RDataTable.{rdata_table}
-use Rattle.sec_tsig.specs.Told.{step_told}
+use Rattle.sec_tsig.specs.Notices.{step_notice}
 use Rattle.sec_check.specs.Reports.{set_proofs}
 use Rattle.sec_check.proofs.Reported.{reported}
 use Rattle.sec_check.proofs.checker.Checker.report.Goals as goal
@@ -10,7 +10,7 @@ use Rattle.sec_check.proofs.checker.Checker.report.Goals as goal
 pub returns : goal.returns
 returns g c message e read told =
     let accepts = g.S.SignatureScheme.accepts c.args.scheme.now in
-    let step = step_told c.args.step.now in
+    let step = step_notice c.args.step.now in
     let held = c.in_ok-sets.sets.items in
     let sets : (m : Message) (k : ℕ) → message_at rdata_table c.args.octets.now ≡ Ok (m, k)
     → held ≡ set_proofs record { accepts = accepts; moment = c.args.moment; entries = c.self.inside.keys } (parts_of m) =

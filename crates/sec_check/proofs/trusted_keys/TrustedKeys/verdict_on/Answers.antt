@@ -27,5 +27,5 @@ returns g c =
     is_answer _ _ _ c.strongest_at.ensures
     (ap (λ (es : List Entry). strongest_at verdict (map entry_data es) c.get.result.now) c.deref.ensures.value
     ∙ strongest_named accepts c.args.moment set c.args.set.now signature entries c.in-Some.by_name.by_key is_index
-    c.in-Some-in_rrsig.key_name (sym c.in_rrsig.ensures ∙ c.in-Some-in_rrsig.is) c.get.result.now c.get.ensures
+    c.in-Some-in_rrsig.key_lookup (sym c.in_rrsig.ensures ∙ c.in-Some-in_rrsig.is) c.get.result.now c.get.ensures
     ∙ ap (λ (es : List EntryData). strongest (map verdict es)) c.self.view_is)

@@ -1,8 +1,0 @@
-use Rattle.dns_names.specs.Jumps.{LeadsTo}
-use Rattle.dns_names.proofs.jumps.end_of_chain.Given as goal
-
-abbrev pub invariant-loop-place : goal.invariant-loop-place
-invariant-loop-place l = LeadsTo l.octets l.first l.place
-
-abbrev pub decreases-loop-place : goal.decreases-loop-place
-decreases-loop-place l = l.place

@@ -1,6 +1,0 @@
-use Rattle.sec_places.proofs.Rooms.{filled_up, puts_more}
-use Rattle.sec_places.proofs.signed_octets.put_all.Goals as goal
-
-pub returns-then-len-out-clause-out : goal.returns-then-len-out-clause-out
-returns-then-len-out-clause-out c =
-    filled_up _ _ _ _ (puts_more c.put_header-start.ensures c.put_records.ensures.puts)
