@@ -1,4 +1,4 @@
-pub mod ScriptLines
-pub mod RequestLength
-pub mod Signable
-pub mod AnswerLines
+pub mod Taken
+pub mod TextLines
+pub mod OneSession
+mod ScriptsRead

@@ -1,4 +1,5 @@
 pub mod Script
-pub mod Session
+pub mod Answers
+pub mod Taking
 pub mod Text
-pub mod ErrorTexts
+pub mod Session

@@ -1,79 +1,71 @@
 -- The text and the status of a session.
-use Rattle.std.specs.Prelude.{ℕ, List, [], ◌∷◌, ◌++◌, if◌then◌else◌, Option, Some, None}
-use Rattle.std.specs.Prelude.{Result, Ok, Err, is_ok}
-use Rattle.std.specs.List.{flat_map, list_all, enumerate_from}
+use Rattle.std.specs.Prelude.{ℕ, ◌+◌, List, [], ◌∷◌, ◌++◌, if◌then◌else◌, Result, Ok, Err, is_ok}
+use Rattle.std.specs.List.{list_all}
 use Rattle.dns_io.specs.declared.status.Status.{Status}
 use Rattle.dns_io.specs.declared.status.Status.TheVariants.{ScriptFault, Refused, Accepted}
-use Rattle.sec_anchor.specs.Entries.{EntryData}
+use Rattle.dns_script.specs.declared.error.ScriptError.{ScriptError}
+use Rattle.dns_script.specs.declared.error.ScriptError.TheVariants as errors
+use Rattle.dns_script.specs.Faults.{fault_text}
+use Rattle.dns_script.specs.Scripts.{script_of}
+use Rattle.dns_script.specs.Sessions.{Session, only}
 use Rattle.sec_sign.specs.Verifying.{Relation}
-use Rattle.sec_tsig.specs.Verdict.{TsigChain}
-use Rattle.sec_tsig.specs.Requests.{signed_request}
-use Rattle.sec_check.specs.Marks.{Trust}
-use Rattle.sec_check.specs.Reports.{Answered, answered}
-use Rattle.check_script.specs.declared.error.ScriptError.{ScriptError}
-use Rattle.check_script.specs.declared.error.ScriptError.TheVariants as errors
-use Rattle.check_script.specs.Script.{Answer, Script, script_of}
-use Rattle.check_script.specs.Text.{request_text, report_text, refused_text, fault_text}
+use Rattle.sec_check.specs.Reports.{Answered}
+use Rattle.check_script.specs.Script.{Script, check_kind}
+use Rattle.check_script.specs.Answers.{found}
+use Rattle.check_script.specs.Taking.{Taking}
+use Rattle.check_script.specs.Text.{request_text, report_text, refused_text}
 
--- what is trusted when an answer is checked: what the scheme accepts, and the entries, at the moment of the answer
-abbrev pub trust_for : Relation → List EntryData → Answer → Trust
-trust_for accepts entries answer = record { accepts = accepts; moment = answer.moment; entries = entries }
-
--- what an answer comes to for a chain: its report and the chain behind it, or the cause for which it is refused
-abbrev pub answer_verdict : Relation → List EntryData → TsigChain → Answer → Answered
-answer_verdict accepts entries chain answer = answered (trust_for accepts entries answer) chain answer.octets
-
--- A refused answer leaves the chain as it was.
-abbrev pub next_chain : TsigChain → Answered → TsigChain
-next_chain chain (Ok found) = found.1
-next_chain chain (Err _) = chain
-
--- what each answer comes to, for the chain of those accepted before it
-unfoldable pub verdicts : Relation → List EntryData → TsigChain → List Answer → List Answered
-verdicts accepts entries chain [] = []
-verdicts accepts entries chain (answer ∷ rest) =
-    answer_verdict accepts entries chain answer
-    ∷ verdicts accepts entries (next_chain chain (answer_verdict accepts entries chain answer)) rest
+-- ---- of a script
 
 -- the lines of an answer
 abbrev pub answer_text : ℕ → Answered → List ℕ
-answer_text number (Ok found) = report_text number found.0
+answer_text number (Ok accepted) = report_text number accepted.report
 answer_text number (Err cause) = refused_text number cause
 
--- The answers are numbered from this number on.
-abbrev pub answers_text : ℕ → List Answered → List ℕ
-answers_text number found = flat_map (λ numbered. answer_text numbered.0 numbered.1) (enumerate_from number found)
+-- the lines of answers, which are numbered from a number on
+unfoldable pub answers_text : ℕ → List Answered → List ℕ
+answers_text number [] = []
+answers_text number (found ∷ others) = answer_text number found ++ answers_text (number + 1) others
 
--- the signed request and what the answers come to for the chain that it begins, where there is one
-abbrev pub signed_text : Relation → List EntryData → List Answer → Option (List ℕ × TsigChain) → List ℕ
-signed_text accepts entries answers (Some begun) =
-    request_text begun.0 ++ answers_text 1 (verdicts accepts entries begun.1 answers)
-signed_text accepts entries answers None = []
+-- a text that takes the lines of each answer in
+abbrev pub appending : Taking (List ℕ)
+appending = record {
+  accepted = λ text number report. text ++ report_text number report;
+  refused = λ text number cause. text ++ refused_text number cause;
+}
+
+-- the signed request, and what the answers come to
+abbrev pub script_text : Relation → Script → List ℕ
+script_text accepts script = request_text script.request.octets ++ answers_text 1 (found accepts script)
 
 -- whether all answers are accepted
-abbrev pub signed_status : Relation → List EntryData → List Answer → Option (List ℕ × TsigChain) → Status
-signed_status accepts entries answers (Some begun) =
-    if list_all is_ok (verdicts accepts entries begun.1 answers) then Accepted else Refused
-signed_status accepts entries answers None = ScriptFault
+abbrev pub script_status : Relation → Script → Status
+script_status accepts script = if list_all is_ok (found accepts script) then Accepted else Refused
 
--- The request of a script, signed, and the chain that it begins. There is one, since a request line that can't be signed
--- is faulty.
-unfoldable pub signed : Script → Option (List ℕ × TsigChain)
-signed script = signed_request script.signer script.request.time script.request.octets
+-- where a scheme accepts these signatures
+abbrev pub script_session : Relation → Session Script
+script_session accepts = only (script_text accepts) (script_status accepts)
 
-abbrev pub script_text : Relation → Result Script ScriptError → List ℕ
-script_text accepts (Ok script) = signed_text accepts script.entries script.answers (signed script)
-script_text accepts (Err (errors.Fault line reason)) = fault_text line reason
-script_text accepts (Err errors.OutOfMemory) = []
+-- ---- of octets
 
-abbrev pub script_status : Relation → Result Script ScriptError → Status
-script_status accepts (Ok script) = signed_status accepts script.entries script.answers (signed script)
-script_status accepts (Err _) = ScriptFault
+-- the text of a script, or the one line that names why octets are none
+abbrev pub text_of : Relation → Result Script ScriptError → List ℕ
+text_of accepts (Ok script) = script_text accepts script
+text_of accepts (Err (errors.Fault line reason)) = fault_text line reason
+text_of accepts (Err errors.OutOfMemory) = []
 
--- the text that the octets of a script make, where a scheme accepts these signatures
+abbrev pub status_of : Relation → Result Script ScriptError → Status
+status_of accepts (Ok script) = script_status accepts script
+status_of accepts (Err _) = ScriptFault
+
+-- the text that octets make, where a scheme accepts these signatures
 unfoldable pub session : Relation → List ℕ → List ℕ
-session accepts octets = script_text accepts (script_of octets)
+session accepts octets = text_of accepts (script_of check_kind octets)
 
 -- the status that they come to
-abbrev pub session_status : Relation → List ℕ → Status
-session_status accepts octets = script_status accepts (script_of octets)
+unfoldable pub session_status : Relation → List ℕ → Status
+session_status accepts octets = status_of accepts (script_of check_kind octets)
+
+-- this text alone, with this status
+abbrev pub check_session : Relation → Session (List ℕ)
+check_session accepts = only (session accepts) (session_status accepts)

@@ -12,8 +12,6 @@ use Rattle.sec_check.specs.declared.set_proof.SetProof.{SetProof}
 use Rattle.sec_check.specs.Reports.{ReportData}
 use Rattle.sec_tsig.specs.declared.verify_error.VerifyError.{VerifyError}
 use Rattle.sec_tsig.specs.declared.verify_error.VerifyError.TheVariants as causes
-use Rattle.check_script.specs.declared.error.Reason.{Reason}
-use Rattle.check_script.specs.declared.error.Reason.TheVariants as reasons
 
 -- the signed request, in lower case
 abbrev pub request_text : List ℕ → List ℕ
@@ -62,18 +60,3 @@ set_text set = section_word set.section ++ codes " " ++ name_text set.owner ++ c
 abbrev pub report_text : ℕ → ReportData → List ℕ
 report_text number report = accepted_text number (length report.sets) ++ tsig_text report.tsig_error report.server_time
     ++ flat_map set_text report.sets
-
--- why a line of a script is faulty
-abbrev pub reason_word : Reason → List ℕ
-reason_word reasons.Text = codes "text"
-reason_word reasons.Word = codes "word"
-reason_word reasons.Order = codes "order"
-reason_word reasons.Anchor = codes "anchor"
-reason_word reasons.Key = codes "key"
-reason_word reasons.Request = codes "request"
-reason_word reasons.Answer = codes "answer"
-reason_word reasons.End = codes "end"
-
--- the first faulty line, numbered from 1
-abbrev pub fault_text : ℕ → Reason → List ℕ
-fault_text line reason = codes "fault " ++ decimal line ++ codes " " ++ reason_word reason ++ codes "\n"

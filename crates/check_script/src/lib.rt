@@ -1,12 +1,13 @@
-//! Scripts of `dnscheck check`: what octets say as a script, and the text and the status of its session.
+//! Scripts of `dnscheck check`: what octets say as a script, what its answers come to, and the text and the status of its
+//! session.
 #![tactic(auto)]
 
-mod anchor;
-mod error;
+mod answers;
+pub mod laws;
 mod script;
 mod sessions;
 mod text;
 
-pub use error::{Reason, ScriptError};
-pub use script::{Answer, Request, Script, read_script};
-pub use sessions::{session, sign_request};
+pub use answers::{AnswerTaker, check_answers};
+pub use script::{Answer, Script, ScriptSoFar};
+pub use sessions::{CheckSession, session};

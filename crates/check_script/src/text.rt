@@ -4,9 +4,8 @@ ghost use Rattle.std.specs.Prelude.{◌≡◌, ◌++◌, OnOk};
 ghost use Rattle.std.specs.List.{flat_map};
 ghost use Rattle.std.specs.String.{string_bytes};
 ghost use Rattle.check_script.specs.Text.{request_text, accepted_text, tsig_text, refused_text, set_text, report_text};
-ghost use Rattle.check_script.specs.Text.{fault_text, section_word, cause_word};
+ghost use Rattle.check_script.specs.Text.{section_word, cause_word};
 
-use crate::error::Reason;
 use dns_text::LowerHex;
 use dns_wire::OutOfMemory;
 use sec_check::{CheckError, Report, Section, SetProof};
@@ -91,14 +90,6 @@ pub(crate) fn push_report(
     push_accepted(text, number, sets.len())?;
     push_tsig(text, report.tsig_error(), report.server_time())?;
     push_sets(text, sets)
-}
-
-/// `fault LINE REASON`
-pub(crate) fn push_fault(text: &mut String, line: u64, reason: Reason) -> Result<(), OutOfMemory>
-    ensures { OnOk result (string_bytes text.new ≡ string_bytes text.old ++ fault_text line reason) }
-{
-    writeln!(text, "fault {line} {reason}")?;
-    Ok(())
 }
 
 fn section_word(section: Section) -> &'static str

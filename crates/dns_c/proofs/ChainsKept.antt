@@ -10,7 +10,8 @@ use Rattle.sec_digest.specs.declared.mac.Mac.{Mac}
 use Rattle.sec_tsig.specs.declared.request_error.RequestError.{RequestError}
 use Rattle.sec_tsig.specs.declared.verify_error.VerifyError.{VerifyError}
 use Rattle.sec_tsig.specs.declared.verify_error.VerifyError.TheVariants as causes
-use Rattle.sec_tsig.specs.Requests.{SignsTo, placed_in, signed_or_cause}
+use Rattle.dns_wire.specs.Rooms.{filled}
+use Rattle.sec_tsig.specs.Requests.{SignsTo, signed_or_cause}
 use Rattle.sec_tsig.specs.Signers.{Signer}
 use Rattle.sec_tsig.specs.Notices.{TsigNotice, notice_by}
 use Rattle.sec_tsig.specs.Verdict.{TsigChain, first_chain, with_tsig, signature_verdict, verdict}
@@ -34,7 +35,7 @@ pub signed_told : (signer : Signer) (time : ℕ) (request out new : List ℕ) (n
 signed_told signer time request out new n mac out_len chain kept is fits kept_is = at is.0 is.1 is.2 is.3
   where
     at : (octets : List ℕ) → signed_or_cause signer time request ≡ Ok octets → n ≡ length octets
-        → new ≡ placed_in out octets
+        → new ≡ filled out octets
         → (0, new, n, kept) ≡ answered_signed (signed_by (Ok signer) time request) out out_len chain
     at octets given long put =
         let short : nat_lt (length out) (length octets) ≡ false = le-ltb _ _ (omega (arith, long, fits)) in

@@ -18,6 +18,12 @@ pub only : (fits : Bool) (x y : TsigRecord) (cause : TsigSignError)
 only true x y cause is = cc
 only false x y cause is = cc
 
+-- there is one, where it fits
+pub only_answers : (fits : Bool) (x : TsigRecord) (other cause : TsigSignError) → fits ≡ true
+    → (if fits then Ok x else Err other) ≡ Err cause → ⊥
+only_answers true x other cause fits is = absurd cc
+only_answers false x other cause fits is = absurd cc
+
 -- the entries of the anchor
 pub entries_read : (text : List ℕ) (found : List EntryData) → text ≡ anchor_text → entries_of text ≡ Ok found
     → found ≡ demo_entries

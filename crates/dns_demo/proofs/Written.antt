@@ -1,6 +1,6 @@
 -- Messages with questions and answers alone.
 use Rattle.std.proofs.Common.{◌≡◌, ℕ, ◌≤◌, false, List, [], ◌∷◌, length, map, Option, None, Result, Ok, Err}
-use Rattle.std.proofs.Common.{refl, sym, ap, ◌∙◌, option_map}
+use Rattle.std.proofs.Common.{refl, sym, ap, ◌∙◌, option_map, is_ok, IsOk}
 use Rattle.std.proofs.lemmas.List.{append-nil}
 use Rattle.std.specs.List.{AllByRecursion}
 use Rattle.std.specs.Result.{result_unwrap_or}
@@ -24,7 +24,7 @@ use Rattle.dns_message.specs.MessageWriting.{written_message, written_record, wr
 use Rattle.dns_message.specs.Parts.{Parts, record_view, tsig_record_view, whole}
 use Rattle.dns_message.specs.Views.{query_view}
 use Rattle.sec_tsig.proofs.WrittenMessages.{written_long}
-use Rattle.dns_demo.specs.Demo.{demo_message, demo_parts, IsOfTable}
+use Rattle.dns_demo.specs.Demo.{demo_message, demo_written, IsOfTable}
 
 abbrev Written : Type 0
 Written = Result (List ℕ) EmitError
@@ -92,19 +92,31 @@ plain id flags queries answers h =
     ((joined_none (each_octets own_octets answers) ∙ each_by_table answers h
     ∙ ap (each_octets by_table) (sym (append-nil (map record_view answers)))) i))
 
--- what is written of a message without other records
+-- a message without other records is written as its questions and answers are
+same_written : (message : Message) → AllByRecursion IsOfTable message.answers.items
+    → message.id ≡ 4660 → message.authorities.items ≡ [] → message.additionals.items ≡ [] → message.signature ≡ None
+    → written_message false Uncompressed message
+    ≡ demo_written message.flags (map query_view message.queries.items) (map record_view message.answers.items)
+same_written message h id authorities additionals signature =
+    (λ i. octets_with (id i) message.flags message.queries.items message.answers.items (authorities i) (additionals i)
+    (signature i)) ∙ plain 4660 message.flags message.queries.items message.answers.items h
+
+-- what is written of it
 pub written_plain : (message : Message) (x : List ℕ) → AllByRecursion IsOfTable message.answers.items
     → message.id ≡ 4660 → message.authorities.items ≡ [] → message.additionals.items ≡ [] → message.signature ≡ None
     → written_message false Uncompressed message ≡ Ok x
     → x ≡ demo_message message.flags (map query_view message.queries.items) (map record_view message.answers.items)
 unfolding demo_message
 written_plain message x h id authorities additionals signature is =
-    let e : written_message false Uncompressed message
-    ≡ message_octets false Uncompressed rdata_table (whole (demo_parts message.flags
-    (map query_view message.queries.items) (map record_view message.answers.items))) =
-    (λ i. octets_with (id i) message.flags message.queries.items message.answers.items (authorities i) (additionals i)
-    (signature i)) ∙ plain 4660 message.flags message.queries.items message.answers.items h in
-    ap (λ (r : Written). result_unwrap_or r []) (sym is ∙ e)
+    ap (λ (r : Written). result_unwrap_or r []) (sym is ∙ same_written message h id authorities additionals signature)
+
+-- it can be written
+pub can_be_written : (message : Message) → AllByRecursion IsOfTable message.answers.items
+    → message.id ≡ 4660 → message.authorities.items ≡ [] → message.additionals.items ≡ [] → message.signature ≡ None
+    → IsOk (demo_written message.flags (map query_view message.queries.items) (map record_view message.answers.items))
+    → IsOk (written_message false Uncompressed message)
+can_be_written message h id authorities additionals signature can =
+    ap (λ (r : Written). is_ok r) (same_written message h id authorities additionals signature) ∙ can
 
 pub written_header : (message : Message) (x : List ℕ) → written_message false Uncompressed message ≡ Ok x
     → 12 ≤ length x

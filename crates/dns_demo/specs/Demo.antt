@@ -1,9 +1,10 @@
 -- The script that `dnscheck demo` runs: who signs, a request, and as many answers to it as are asked for.
 use Rattle.std.specs.Prelude.{◌≡◌, Bool, true, false, ℕ, zero, suc, ◌+◌, ◌-◌, ◌/◌, ◌%◌, ◌==◌, if◌then◌else◌, bit_xor, List, [], ◌∷◌, ◌++◌}
-use Rattle.std.specs.Prelude.{length, replicate, codes, slice_index, slice_set, Some, None}
+use Rattle.std.specs.Prelude.{length, replicate, codes, slice_index, slice_set, Some, None, Result}
 use Rattle.std.specs.Fmt.{decimal}
 use Rattle.std.specs.Result.{result_unwrap_or}
 use Rattle.dns_wire.specs.declared.encoder.NameEncoding.TheVariants.{Uncompressed}
+use Rattle.dns_wire.specs.declared.error.EmitError.{EmitError}
 use Rattle.dns_types.specs.ClassNumbers as classes
 use Rattle.dns_types.specs.TypeNumbers as types
 use Rattle.dns_grammar.specs.Fields.{row_of}
@@ -70,10 +71,14 @@ demo_parts flags queries answers = record {
   signature = None;
 }
 
+-- what is written of it
+abbrev pub demo_written : ℕ → List Query → List ResourceRecord → Result (List ℕ) EmitError
+demo_written flags queries answers =
+    message_octets false Uncompressed rdata_table (whole (demo_parts flags queries answers))
+
 -- its octets
 unfoldable pub demo_message : ℕ → List Query → List ResourceRecord → List ℕ
-demo_message flags queries answers =
-    result_unwrap_or (message_octets false Uncompressed rdata_table (whole (demo_parts flags queries answers))) []
+demo_message flags queries answers = result_unwrap_or (demo_written flags queries answers) []
 
 -- the question for the address of the zone
 abbrev pub demo_query : Query

@@ -4,6 +4,7 @@
 
 mod answering;
 mod flipping;
+pub mod laws;
 mod messages;
 mod parts;
 mod records;

@@ -1,55 +1,62 @@
 //! Names and messages.
-ghost use Rattle.std.specs.Prelude.{◌≡◌, ◌≤◌, false, length, map, Ok, IfOk};
+ghost use Rattle.std.specs.Prelude.{◌≡◌, ◌≤◌, ◌<◌, false, length, map, Ok, IfOk, IsOk};
 ghost use Rattle.std.specs.List.{AllByRecursion};
 ghost use Rattle.dns_wire.specs.declared.encoder.NameEncoding.TheVariants.{Uncompressed};
+ghost use Rattle.dns_names.specs.Names.{wire};
 ghost use Rattle.dns_message.specs.MessageWriting.{written_message};
 ghost use Rattle.dns_message.specs.Parts.{record_view};
 ghost use Rattle.dns_message.specs.Views.{query_view};
-ghost use Rattle.dns_demo.specs.Demo.{demo_message, zone, IsOfTable};
+ghost use Rattle.dns_demo.specs.Demo.{demo_message, demo_written, zone, IsOfTable};
 
 use crate::parts::ID;
 use dns_message::{Message, Query, Record};
 use dns_names::{Label, Name};
 use dns_rdata::RData;
-use dns_wire::{BinEncodable, BinEncoder, OutOfMemory};
+use dns_wire::{BinEncodable, BinEncoder, EmitError, OutOfMemory};
 use std::alloc::Global;
 
-/// A label of these octets, of which there are 1 to 63.
-pub(crate) fn label(octets: &[u8]) -> Result<Label, OutOfMemory>
-    ensures { IfOk result (λ label. label ≡ octets.now) }
+/// A label of these octets.
+pub(crate) fn label(octets: &[u8]) -> Label
+    requires some { 0 < length octets.now }
+    requires at_most { length octets.now ≤ 63 }
+    ensures { result ≡ octets.now }
 {
     match Label::from_bytes(octets) {
-        Ok(label) => Ok(label),
-        Err(_) => Err(OutOfMemory),
+        Ok(label) => label,
+        Err(_) => unreachable!(),
     }
 }
 
-/// The name of these labels, which isn't too long.
-pub(crate) fn name(labels: &[Label]) -> Result<Name, OutOfMemory>
-    ensures { IfOk result (λ name. name ≡ labels.now) }
+/// The name of these labels.
+pub(crate) fn name(labels: &[Label]) -> Name
+    requires { length (wire labels.now) ≤ 255 }
+    ensures { result ≡ labels.now }
 {
     match Name::from_labels(labels) {
-        Ok(name) => Ok(name),
-        Err(_) => Err(OutOfMemory),
+        Ok(name) => name,
+        Err(_) => unreachable!(),
     }
 }
 
 /// The name of the zone.
 #[tactic(auto, unfolding(crate::specs::Demo::zone))]
-pub(crate) fn zone() -> Result<Name, OutOfMemory>
-    ensures { IfOk result (λ name. name ≡ zone) }
+pub(crate) fn zone() -> Name
+    ensures { result ≡ zone }
 {
-    name(&[label(b"example")?])
+    name(&[label(b"example")])
 }
 
 /// The octets of a message that can be written.
+#[tactic(auto, using(crate::proofs::Refusals::refuses_nothing))]
 fn written(alloc: Global, message: &Message) -> Result<Vec<u8>, OutOfMemory>
+    requires { IsOk (written_message false Uncompressed message.now) }
     ensures { IfOk result (λ octets. written_message false Uncompressed message.now ≡ Ok octets.items) }
 {
     let mut encoder = BinEncoder::new(alloc);
     match message.emit(&mut encoder) {
         Ok(()) => Ok(encoder.into_bytes()),
-        Err(_) => Err(OutOfMemory),
+        Err(EmitError::OutOfMemory) => Err(OutOfMemory),
+        Err(_) => unreachable!(),
     }
 }
 
@@ -61,7 +68,8 @@ pub(crate) fn message(
     queries: Vec<Query>,
     answers: Vec<Record<RData>>,
 ) -> Result<Vec<u8>, OutOfMemory>
-    requires { AllByRecursion IsOfTable answers.items }
+    requires rows { AllByRecursion IsOfTable answers.items }
+    requires writable { IsOk (demo_written flags (map query_view queries.items) (map record_view answers.items)) }
     ensures exact { IfOk result (λ octets. octets.items
         ≡ demo_message flags (map query_view queries.items) (map record_view answers.items)) }
     ensures header { IfOk result (λ octets. 12 ≤ length octets.items) }

@@ -1,5 +1,5 @@
 //! Who signs, and the request.
-ghost use Rattle.std.specs.Prelude.{◌≡◌, ◌≤◌, length, map, Ok, IfOk};
+ghost use Rattle.std.specs.Prelude.{◌≡◌, ◌≤◌, length, map, Ok, IfOk, IsOk};
 ghost use Rattle.sec_anchor.specs.Entries.{entry_data, entries_of};
 ghost use Rattle.dns_demo.specs.Demo.{anchor_text, demo_entries, demo_request, demo_signer};
 
@@ -7,7 +7,7 @@ use crate::messages::{label, message, name, zone};
 use dns_message::Query;
 use dns_types::{DNSClass, RecordType};
 use dns_wire::OutOfMemory;
-use sec_anchor::{Entry, Parser};
+use sec_anchor::{Entry, ParseError, Parser};
 use sec_sigdata::TsigAlgorithm;
 use sec_tsig::TSigner;
 use std::alloc::Global;
@@ -29,13 +29,16 @@ fn anchor_text() -> &'static str
     "example. IN DNSKEY 256 3 15 AQEBAQEBAQEBAQEBAQEBAQEBAQEBAQEBAQEBAQEBAQE="
 }
 
-/// The entries of an anchor text that has some.
+/// The entries of an anchor text that can be read.
+#[tactic(auto, using(crate::proofs::Refusals::refuses_nothing))]
 fn entries_in(alloc: Global, text: &str) -> Result<Vec<Entry>, OutOfMemory>
+    requires { IsOk (entries_of text.now) }
     ensures { IfOk result (λ entries. entries_of text.now ≡ Ok (map entry_data entries.items)) }
 {
     match Parser::new(text).parse(alloc) {
         Ok(entries) => Ok(entries),
-        Err(_) => Err(OutOfMemory),
+        Err(ParseError::OutOfMemory) => Err(OutOfMemory),
+        Err(_) => unreachable!(),
     }
 }
 
@@ -44,7 +47,7 @@ fn entries_in(alloc: Global, text: &str) -> Result<Vec<Entry>, OutOfMemory>
 /// # Errors
 ///
 /// Out of memory.
-#[tactic(auto, using(crate::proofs::Steps::entries_read))]
+#[tactic(auto, using(crate::proofs::Steps::entries_read, crate::proofs::Anchors::can_be_read))]
 pub fn entries(alloc: Global) -> Result<Vec<Entry>, OutOfMemory>
     ensures { IfOk result (λ entries. map entry_data entries.items ≡ demo_entries) }
 {
@@ -61,10 +64,10 @@ pub fn signer(alloc: Global) -> Result<TSigner, OutOfMemory>
     ensures { IfOk result (λ signer. signer ≡ demo_signer) }
 {
     let key = Vec::from_slice(alloc, &[11; 20])?;
-    let owner = name(&[label(b"k")?])?;
+    let owner = name(&[label(b"k")]);
     match TSigner::new(key, TsigAlgorithm::HmacSha256, owner, 300) {
         Ok(signer) => Ok(signer),
-        Err(_) => Err(OutOfMemory),
+        Err(_) => unreachable!(),
     }
 }
 
@@ -80,7 +83,7 @@ pub fn request(alloc: Global) -> Result<Vec<u8>, OutOfMemory>
 {
     let mut queries = Vec::new(alloc);
     queries.push(Query {
-        name: zone()?,
+        name: zone(),
         query_type: RecordType::A,
         query_class: DNSClass::IN,
     })?;

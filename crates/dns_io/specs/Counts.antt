@@ -1,5 +1,5 @@
 -- Counts of the outside. A count is a `u64`, and stands still at its last value.
-use Rattle.std.specs.Prelude.{◌≡◌, ℕ, ◌+◌, ◌-◌, ◌^◌, ◌≤◌, min, max, Result, OnErr, MatchResult}
+use Rattle.std.specs.Prelude.{◌≡◌, ℕ, ◌+◌, ◌-◌, ◌^◌, ◌≤◌, min, max, Result, MatchResult}
 
 -- n more, or the last value
 abbrev pub raised : ℕ → ℕ → ℕ
@@ -12,10 +12,9 @@ RoseBy n before now = raised before n ≤ now
 abbrev pub Rose : ℕ → ℕ → Type 0
 Rose before now = RoseBy 1 before now
 
--- no call lowers the count of faults, and a failed one raises it
-pub record CountsFaults {T E : Type 0} (before now : ℕ) (result : Result T E) : Type 0 where
-  pub later : before ≤ now
-  pub failed : OnErr result (Rose before now)
+-- a failed call raises the count of faults by one, and no other call changes it
+abbrev pub CountsFaults : {T E : Type 0} → ℕ → ℕ → Result T E → Type 0
+CountsFaults before now result = MatchResult result (λ _. now ≡ before) (λ _. now ≡ raised before 1)
 
 -- a read raises the count of octets taken by as many as it moved
 abbrev pub CountsTaken : {E : Type 0} → ℕ → ℕ → Result ℕ E → Type 0

@@ -1,8 +1,9 @@
--- What the sources and the sink in memory show.
-use Rattle.std.specs.Prelude.{◌≡◌, ℕ, ◌+◌, ◌-◌, List, length, take, drop, vec_len}
+-- What the sources and the sinks in memory show.
+use Rattle.std.specs.Prelude.{◌≡◌, ℕ, ◌+◌, ◌-◌, if◌then◌else◌, List, length, take, drop, vec_len, Option, Some, None}
 use Rattle.dns_io.specs.declared.memory.MemSource.{MemSource}
 use Rattle.dns_io.specs.declared.memory.PlainSource.{PlainSource}
 use Rattle.dns_io.specs.declared.memory.MemSink.{MemSink}
+use Rattle.dns_io.specs.declared.memory.PlainSink.{PlainSink}
 
 -- the octets left
 abbrev pub source_left : MemSource → List ℕ
@@ -64,6 +65,10 @@ sink_fails s = s.fails.items
 -- the most octets that a call appends
 abbrev pub sink_step : MemSink → ℕ
 sink_step s = s.step
+
+-- the octets taken, while there was memory for all of them
+abbrev pub plain_kept : PlainSink → Option (List ℕ)
+plain_kept s = if s.is_whole then Some s.octets.items else None
 
 -- the list of failures and the step stay, and what is held and the room are still as much together
 pub record SameSink (old new : MemSink) : Type 0 where

@@ -13,7 +13,7 @@ pub use dns_text::{
     decode_hex, four_words, is_skipped, is_text, number_below, split_line, split_word, two_words,
     without_return,
 };
-pub use memory::{MemSink, MemSource, PlainSource};
+pub use memory::{MemSink, MemSource, PlainSink, PlainSource};
 pub use source_sink::{Failed, Sink, Source};
 pub use standard::{StdSink, StdSource};
 pub use status::Status;

@@ -1,12 +1,14 @@
-//! Sources and a sink in memory. They take no memory of their own. Their calls are counted from 1.
+//! Sources and sinks in memory. Those that fail at listed calls count their calls from 1. All but [`PlainSink`] take no
+//! memory of their own.
 
-ghost use Rattle.std.specs.Prelude.{◌≡◌, ◌≤◌, ◌<◌, ◌↔◌, ◌⊎◌, ◌≢◌, ◌+◌, ◌-◌, ◌++◌, [], length, take, min, Some};
+ghost use Rattle.std.specs.Prelude.{◌≡◌, ◌≤◌, ◌<◌, ◌↔◌, ◌⊎◌, ◌≢◌, ◌+◌, ◌-◌, ◌++◌, [], length, take, min, None, Some};
 ghost use Rattle.std.specs.Prelude.{Contains, IsErr, IfOk, IsOkAnd, vec_len};
 ghost use Rattle.std.specs.Io.{ReadsAtMost, WritesAtMost};
 ghost use Rattle.std.specs.Io.KnownBytes.{ReadConsumes, WriteAppends};
 ghost use Rattle.dns_io.specs.Counts.{raised, CountsTaken, CountsFaults};
 
 use crate::{Failed, Sink, Source};
+use std::alloc::Global;
 
 /// The octets of a vector, at most `step` of them a call, with a failure at each call whose number is listed.
 #[derive(Debug, Drop)]
@@ -227,4 +229,64 @@ fn append_prefix(from: &[u8], to: &mut [u8], at: usize, most: usize) -> usize
     let count = most.min(from.len()).min(to.len() - at);
     to[at..at + count].copy_from_slice(&from[..count]);
     count
+}
+
+/// A sink that takes every octet and never fails. It keeps the octets while there is memory for all of them, and is asked
+/// for them at the end.
+#[derive(Debug, Drop)]
+pub struct PlainSink {
+    octets: Vec<u8>,
+    is_whole: bool,
+}
+
+impl PlainSink {
+    ghost use Rattle.std.specs.Option.{option_map};
+    ghost use Rattle.dns_io.specs.Memory.{plain_kept};
+
+    /// A sink that has taken nothing yet.
+    pub fn new(alloc: Global) -> PlainSink
+        ensures { plain_kept result ≡ Some [] }
+    {
+        PlainSink {
+            octets: Vec::new(alloc),
+            is_whole: true,
+        }
+    }
+
+    /// All the octets that it took. There are none where memory ran out at a write.
+    pub fn kept(&self) -> Option<&[u8]>
+        ensures { option_map (λ octets. octets.now) result ≡ plain_kept self.now }
+    {
+        if self.is_whole {
+            Some(self.octets.as_slice())
+        } else {
+            None
+        }
+    }
+}
+
+impl Sink for PlainSink {
+    ghost use Rattle.std.specs.Prelude.{IfSome};
+    ghost use Rattle.std.specs.Io.KnownBytes.{append_known};
+    ghost use Rattle.dns_io.specs.Memory.{plain_kept};
+
+    ghost held = { λ _. None };
+
+    ghost faults = { λ _. 0 };
+
+    /// Takes all of `buf`.
+    fn write(&mut self, buf: &[u8]) -> Result<usize, Failed>
+        ensures bound { WritesAtMost result buf.now }
+        ensures moves { 0 < length buf.now → IfOk result (λ n. 0 < n) }
+        ensures octets { WriteAppends None None result buf.now }
+        ensures faults { CountsFaults 0 0 result }
+
+        ensures taken { IsOkAnd result (λ n. n ≡ length buf.now) }
+        ensures kept { IfSome (plain_kept self.new) (λ octets. append_known (plain_kept self.old) buf.now ≡ Some octets) }
+    {
+        if self.is_whole && self.octets.extend_from_slice(buf).is_err() {
+            self.is_whole = false;
+        }
+        Ok(buf.len())
+    }
 }

@@ -1,17 +1,67 @@
 //! Standard input and output as a source and a sink. They are the trusted edge of a program: they tell no octets as a
 //! source and a sink, and what they do with their reader or writer is said by clauses of their own.
 
-ghost use Rattle.std.specs.Prelude.{◌≡◌, ◌<◌, None, length, IfOk};
+ghost use Rattle.std.specs.Prelude.{◌≡◌, ◌<◌, false, None, Err, length, IfOk};
 ghost use Rattle.std.specs.Result.{result_ok};
 ghost use Rattle.std.specs.Io.{ReadsAtMost, WritesAtMost};
 ghost use Rattle.std.specs.Io.KnownBytes.{ReadConsumes, WriteAppends};
 ghost use Rattle.dns_io.specs.Counts.{CountsTaken, CountsFaults};
+ghost use Rattle.dns_io.specs.Interruptions.{was_interrupted};
 
 use crate::{Failed, Sink, Source};
 use std::io;
 use std::io::{Read, Write};
 
-/// A reader as a source.
+/// Whether a signal interrupted the call that answered this (EINTR).
+fn is_interrupted(answer: &io::Result<usize>) -> bool
+    ensures { result ≡ was_interrupted answer.now }
+{
+    match answer {
+        Ok(_) => false,
+        Err(error) => matches!(error.kind(), io::ErrorKind::Interrupted),
+    }
+}
+
+/// Why nothing was moved by a call that was interrupted at each of 2^64 - 1 tries.
+fn always_interrupted() -> io::Error
+    ensures { was_interrupted (Err result) ≡ false }
+{
+    io::Error::other("interrupted at each try")
+}
+
+/// Reads once, and again where a signal interrupted the call, as `Read::read_to_end` does.
+#[tactic(auto, using(crate::proofs::Tries::read_at_last, crate::proofs::Tries::read_interrupted))]
+fn read_uninterrupted<R: Read>(reader: &mut R, buf: &mut [u8]) -> io::Result<usize>
+    ensures bound { ReadsAtMost result buf.new }
+    ensures octets { ReadConsumes (R.remaining reader.old) (R.remaining reader.new) result buf.new }
+    ensures uninterrupted { was_interrupted result ≡ false }
+{
+    'tries: for _ in 0..u64::MAX {
+        let answer = reader.read(buf);
+        if !is_interrupted(&answer) {
+            return answer;
+        }
+    }
+    Err(always_interrupted())
+}
+
+/// Writes once, and again where a signal interrupted the call, as `Write::write_all` does.
+#[tactic(auto, using(crate::proofs::Tries::written_at_last, crate::proofs::Tries::write_interrupted))]
+fn write_uninterrupted<W: Write>(writer: &mut W, buf: &[u8]) -> io::Result<usize>
+    ensures bound { WritesAtMost result buf.now }
+    ensures octets { WriteAppends (W.contents writer.old) (W.contents writer.new) result buf.now }
+    ensures uninterrupted { was_interrupted result ≡ false }
+{
+    'tries: for _ in 0..u64::MAX {
+        let answer = writer.write(buf);
+        if !is_interrupted(&answer) {
+            return answer;
+        }
+    }
+    Err(always_interrupted())
+}
+
+/// A reader as a source. A read that a signal interrupted is tried again.
 #[derive(Debug, Drop)]
 pub struct StdSource<R> {
     reader: R,
@@ -74,12 +124,12 @@ impl<R: Read> Source for StdSource<R> {
         ensures reader { PassesRead (R.remaining (reader_of self.old)) (R.remaining (reader_of self.new))
             buf.new result (std_source_faults self.old) (std_source_faults self.new) }
     {
-        let answer = self.reader.read(buf);
+        let answer = read_uninterrupted(&mut self.reader, buf);
         self.pass_on(answer)
     }
 }
 
-/// A writer as a sink.
+/// A writer as a sink. A write that a signal interrupted is tried again.
 #[derive(Debug, Drop)]
 pub struct StdSink<W> {
     writer: W,
@@ -132,7 +182,7 @@ impl<W: Write> Sink for StdSink<W> {
         ensures writer { PassesWrite (W.contents (writer_of self.old)) (W.contents (writer_of self.new))
             buf.now result (std_sink_faults self.old) (std_sink_faults self.new) }
     {
-        let answer = self.writer.write(buf);
+        let answer = write_uninterrupted(&mut self.writer, buf);
         self.pass_on(answer, buf.len())
     }
 }

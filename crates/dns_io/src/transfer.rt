@@ -2,8 +2,8 @@
 
 ghost use Rattle.std.specs.Prelude.{◌≡◌, ◌≢◌, ◌≤◌, ◌<◌, ◌+◌, length, IfOk, OnOk, OnErr, IsErrOf, vec_len};
 ghost use Rattle.std.specs.Io.KnownBytes.{Appends, Consumes, IsAtEnd};
-ghost use Rattle.dns_io.specs.Counts.{Rose, RoseBy, raised, CountsFaults};
-ghost use Rattle.dns_io.specs.Transfer.{ReadsAll, AppendsPrefix, Moves};
+ghost use Rattle.dns_io.specs.Counts.{RoseBy, raised, CountsFaults};
+ghost use Rattle.dns_io.specs.Transfer.{ReadsAll, CountsReadFault, AppendsPrefix, Moves};
 ghost use Rattle.dns_io.specs.declared.transfer.TheConstants.{INPUT_LIMIT};
 ghost use Rattle.dns_io.specs.declared.transfer.ReadError.TheVariants.{OutOfMemory};
 
@@ -25,7 +25,7 @@ pub enum ReadError {
     Fault,
     /// More than [`INPUT_LIMIT`] octets come before the end.
     TooLong,
-    /// There was no memory.
+    /// Out of memory.
     OutOfMemory,
 }
 
@@ -64,10 +64,9 @@ pub fn read_all<S: Source>(alloc: Global, source: &mut S) -> Result<Vec<u8>, Rea
     ensures consumed { IfOk result (λ content. Consumes (S.left source.old) (S.left source.new) content.items) }
 
     // Each refusal has its cause, also where the source tells nothing.
-    ensures fault { IsErrOf result ReadError.Fault → Rose (S.faults source.old) (S.faults source.new) }
+    ensures faults { CountsReadFault (S.faults source.old) (S.faults source.new) result }
     ensures too_long { IsErrOf result ReadError.TooLong
         → RoseBy (INPUT_LIMIT + 1) (S.taken source.old) (S.taken source.new) }
-    ensures later { S.faults source.old ≤ S.faults source.new }
     ensures at_most { S.taken source.new ≤ raised (S.taken source.old) (INPUT_LIMIT + 1) }
 {
     let mut content = Vec::new(alloc);
@@ -91,9 +90,8 @@ fn read_piece<S: Source>(
     ensures end { IfOk result (λ n. n ≡ 0 → 0 < length piece.old → IsAtEnd (S.left source.new)) }
     ensures bound { IfOk result (λ n. n ≤ length piece.old) }
     ensures taken { IfOk result (λ n. S.taken source.new ≡ raised (S.taken source.old) n) }
-    ensures fault { IsErrOf result ReadError.Fault → Rose (S.faults source.old) (S.faults source.new) }
+    ensures faults { CountsReadFault (S.faults source.old) (S.faults source.new) result }
     ensures too_long { result ≢ Err ReadError.TooLong }
-    ensures later { S.faults source.old ≤ S.faults source.new }
     ensures at_most { S.taken source.new ≤ raised (S.taken source.old) (length piece.old) }
 {
     let Ok(count) = source.read(piece) else {

@@ -55,6 +55,16 @@ ComesTo session octets Refused before after = (length octets ≤ INPUT_LIMIT) ×
 ComesTo session octets Accepted before after = (length octets ≤ INPUT_LIMIT)
     × Writes session octets Accepted before after
 
+-- the count of failed reads after a run: one more where it comes to ReadFault, and else the same
+abbrev pub read_faults_after : ℕ → Status → ℕ
+read_faults_after before ReadFault = raised before 1
+read_faults_after before _ = before
+
+-- the count of failed writes after a run: one more where it comes to WriteFault, and else the same
+abbrev pub write_faults_after : ℕ → Status → ℕ
+write_faults_after before WriteFault = raised before 1
+write_faults_after before _ = before
+
 -- the statuses under which nothing is written
 abbrev pub WritesNothing : Status → Type 0
 WritesNothing Usage = Unit {0}

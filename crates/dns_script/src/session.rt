@@ -2,8 +2,9 @@
 
 ghost use Rattle.std.specs.Prelude.{◌≡◌, ◌≤◌, ◌+◌, IfOk, IfSome};
 ghost use Rattle.std.specs.String.{string_bytes};
-ghost use Rattle.dns_io.specs.Counts.{raised, Rose, RoseBy};
+ghost use Rattle.dns_io.specs.Counts.{raised, RoseBy};
 ghost use Rattle.dns_script.specs.Sessions.{IsOutcome, ComesTo, WritesNothing, WritesText, SessionWritten};
+ghost use Rattle.dns_script.specs.Sessions.{read_faults_after, write_faults_after};
 
 use dns_io::{INPUT_LIMIT, ReadError, Sink, Source, Status, read_all, write_all};
 use dns_wire::OutOfMemory;
@@ -24,6 +25,7 @@ pub trait OctetSession {
 }
 
 /// Reads all octets that the source gives, and then writes the text of their session to the sink.
+#[tactic(auto, using(crate::proofs::Outcomes::no_read_fault, crate::proofs::Outcomes::no_write_fault))]
 pub fn run_session<S: OctetSession, I: Source, O: Sink>(
     alloc: Global,
     session: &S,
@@ -32,10 +34,10 @@ pub fn run_session<S: OctetSession, I: Source, O: Sink>(
 ) -> Status
     // Over every source and sink: what each status shows of the outside.
     ensures used { result ≡ Status.Usage → ⊥ }
-    ensures read_fault { result ≡ Status.ReadFault → Rose (I.faults source.old) (I.faults source.new) }
+    ensures read_faults { I.faults source.new ≡ read_faults_after (I.faults source.old) result }
     ensures too_long { result ≡ Status.TooLong
         → RoseBy (INPUT_LIMIT + 1) (I.taken source.old) (I.taken source.new) }
-    ensures write_fault { result ≡ Status.WriteFault → Rose (O.faults sink.old) (O.faults sink.new) }
+    ensures write_faults { O.faults sink.new ≡ write_faults_after (O.faults sink.old) result }
     ensures taken_at_most { I.taken source.new ≤ raised (I.taken source.old) (INPUT_LIMIT + 1) }
     ensures nothing_written { WritesNothing result → sink.new ≡ sink.old }
 

@@ -1,18 +1,30 @@
 -- What `demo` makes, and what it comes to.
-use Rattle.std.specs.Prelude.{◌≡◌, ℕ, List, [], ◌++◌, codes, map, Option, Some, None, Ok}
+use Rattle.std.specs.Prelude.{◌≡◌, ℕ, List, ◌++◌, codes, map, Option}
 use Rattle.std.specs.Fmt.{decimal}
+use Rattle.std.specs.Io.KnownBytes.{Appends}
 use Rattle.dns_io.specs.declared.status.Status.{Status}
 use Rattle.dns_io.specs.declared.status.Status.TheVariants.{Usage, ReadFault, TooLong, OutOfMemory, WriteFault}
 use Rattle.dns_io.specs.declared.status.Status.TheVariants.{ScriptFault, Refused, Accepted}
-use Rattle.sec_anchor.specs.Entries.{EntryData}
+use Rattle.dns_io.specs.Transfer.{AppendsPrefix}
 use Rattle.sec_sign.specs.Verifying.{Relation}
-use Rattle.sec_tsig.specs.Verdict.{TsigChain}
-use Rattle.sec_check.specs.Reports.{Answered}
-use Rattle.dns_demo.specs.Demo.{demo_answers, demo_entries, demo_request, demo_signer, demo_time}
-use Rattle.dnscheck.specs.declared.counts.Counts.{Counts}
-use Rattle.dnscheck.specs.Counts.{no_counts, with_answers}
+use Rattle.sec_tsig.specs.Signers.{request_record}
+use Rattle.sec_tsig.specs.Verdict.{first_chain}
+use Rattle.signer_lines.specs.Requests.{SignedRequest}
+use Rattle.dns_demo.specs.Demo.{demo_answers, demo_entries, demo_request, demo_signer, demo_time, followed_by_tsig}
 use Rattle.check_script.specs.Script.{Answer, Script}
-use Rattle.check_script.specs.Session.{script_status, signed, verdicts}
+use Rattle.check_script.specs.Answers.{found}
+use Rattle.check_script.specs.Session.{script_status}
+use Rattle.dnscheck.specs.declared.counts.Counts.{Counts}
+use Rattle.dnscheck.specs.Counts.{counted}
+
+-- ---- its script
+
+-- the request, signed at the time of the demo
+unfoldable pub demo_signed : SignedRequest
+demo_signed = record {
+  octets = followed_by_tsig demo_request (request_record demo_signer demo_time demo_request);
+  chain = first_chain demo_signer demo_time demo_request;
+}
 
 -- an answer that is checked at the moment of the demo
 abbrev pub demo_answer : List ℕ → Answer
@@ -22,22 +34,11 @@ demo_answer octets = record { moment = demo_time; octets = octets }
 unfoldable pub demo_script : ℕ → Script
 demo_script count = record {
   entries = demo_entries;
-  signer = demo_signer;
-  request = record { octets = demo_request; time = demo_time };
+  request = demo_signed;
   answers = map demo_answer (demo_answers count);
 }
 
--- what the answers of a script come to for the chain that its signed request begins, where there is one
-abbrev pub signed_found : Relation → List EntryData → List Answer → Option (List ℕ × TsigChain) → List Answered
-signed_found accepts entries answers (Some begun) = verdicts accepts entries begun.1 answers
-signed_found accepts entries answers None = []
-
-abbrev pub script_found : Relation → Script → List Answered
-script_found accepts script = signed_found accepts script.entries script.answers (signed script)
-
--- the same, counted
-unfoldable pub script_counts : Relation → Script → Counts
-script_counts accepts script = with_answers no_counts (script_found accepts script)
+-- ---- its text and its status
 
 -- how many answers there are, and how many of them are accepted and refused
 abbrev pub answer_counts_text : ℕ → Counts → List ℕ
@@ -54,21 +55,24 @@ set_counts_text counts =
 abbrev pub counts_text : ℕ → Counts → List ℕ
 counts_text count counts = answer_counts_text count counts ++ set_counts_text counts
 
--- the text of a demo, where a scheme accepts these signatures
+-- the text of a demo, where a scheme accepts these signatures: what the answers of its script come to, counted
 unfoldable pub demo_text : Relation → ℕ → List ℕ
-demo_text accepts count = counts_text count (script_counts accepts (demo_script count))
+demo_text accepts count = counts_text count (counted (found accepts (demo_script count)))
 
 -- the status that it comes to: that of its script
 unfoldable pub demo_status : Relation → ℕ → Status
-demo_status accepts count = script_status accepts (Ok (demo_script count))
+demo_status accepts count = script_status accepts (demo_script count)
 
--- A demo comes to its status, but for failed writes and want of memory.
-abbrev pub IsDemoStatus : Relation → ℕ → Status → Type 0
-IsDemoStatus accepts count Usage = ⊥
-IsDemoStatus accepts count ReadFault = ⊥
-IsDemoStatus accepts count TooLong = ⊥
-IsDemoStatus accepts count OutOfMemory = Unit {0}
-IsDemoStatus accepts count WriteFault = Unit {0}
-IsDemoStatus accepts count ScriptFault = ⊥
-IsDemoStatus accepts count Refused = demo_status accepts count ≡ Refused
-IsDemoStatus accepts count Accepted = demo_status accepts count ≡ Accepted
+-- What a run of a demo comes to, and what the sink holds before and after it: its status and its text, but for failed
+-- writes, after which a prefix of the text is appended, and but for out of memory.
+abbrev pub DemoComesTo : Relation → ℕ → Status → Option (List ℕ) → Option (List ℕ) → Type 0
+DemoComesTo accepts count Usage before after = ⊥
+DemoComesTo accepts count ReadFault before after = ⊥
+DemoComesTo accepts count TooLong before after = ⊥
+DemoComesTo accepts count OutOfMemory before after = Unit {0}
+DemoComesTo accepts count WriteFault before after = AppendsPrefix before after (demo_text accepts count)
+DemoComesTo accepts count ScriptFault before after = ⊥
+DemoComesTo accepts count Refused before after = (demo_status accepts count ≡ Refused)
+    × Appends before after (demo_text accepts count)
+DemoComesTo accepts count Accepted before after = (demo_status accepts count ≡ Accepted)
+    × Appends before after (demo_text accepts count)

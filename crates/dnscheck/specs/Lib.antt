@@ -1,4 +1,3 @@
-pub mod Session
 pub mod Commands
 pub mod Counts
 pub mod Demos

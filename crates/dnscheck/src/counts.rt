@@ -1,9 +1,10 @@
 //! What the answers of a script come to, counted.
-ghost use Rattle.std.specs.Prelude.{◌≡◌, ◌+◌, nat_eq, IfOk};
-ghost use Rattle.dnscheck.specs.Counts.{no_counts, with_accepted, with_mark, with_marks, with_refused};
+ghost use Rattle.std.specs.Prelude.{◌≡◌, ◌∷◌, [], ◌+◌, IfOk};
+ghost use Rattle.dnscheck.specs.Counts.{marks, no_counts, with_accepted, with_marks, with_refused};
 
+use check_script::AnswerTaker;
 use dns_wire::OutOfMemory;
-use sec_check::SetProof;
+use sec_check::{CheckError, Report, SetProof};
 use sec_codes::Proof;
 
 /// How many answers are accepted and refused, and how many record sets of the accepted ones have each mark.
@@ -40,7 +41,7 @@ impl Counts {
     }
 
     /// The counts with one more refused answer.
-    pub(crate) fn with_refused(self) -> Result<Counts, OutOfMemory>
+    fn with_refused(self) -> Result<Counts, OutOfMemory>
         ensures { IfOk result (λ counts. counts ≡ with_refused self) }
     {
         let refused = one_more(self.refused)?;
@@ -49,7 +50,7 @@ impl Counts {
 
     /// The counts with one more record set of this mark.
     fn with_mark(self, proof: Proof) -> Result<Counts, OutOfMemory>
-        ensures { IfOk result (λ counts. counts ≡ with_mark self proof) }
+        ensures { IfOk result (λ counts. counts ≡ with_marks self (proof ∷ [])) }
     {
         match proof {
             Proof::Secure => {
@@ -73,7 +74,7 @@ impl Counts {
 
     /// The counts with these record sets.
     fn with_marks(self, sets: &[SetProof]) -> Result<Counts, OutOfMemory>
-        ensures { IfOk result (λ counts. counts ≡ with_marks self sets.now) }
+        ensures { IfOk result (λ counts. counts ≡ with_marks self (marks sets.now)) }
     {
         let mut counts = self;
         'sets: for set in sets {
@@ -83,18 +84,27 @@ impl Counts {
     }
 
     /// The counts with one more accepted answer, which has these record sets.
-    pub(crate) fn with_accepted(self, sets: &[SetProof]) -> Result<Counts, OutOfMemory>
+    fn with_accepted(self, sets: &[SetProof]) -> Result<Counts, OutOfMemory>
         ensures { IfOk result (λ counts. counts ≡ with_accepted self sets.now) }
     {
         let accepted = one_more(self.accepted)?;
         let counts = Counts { accepted, ..self };
         counts.with_marks(sets)
     }
+}
 
-    /// Whether no answer is refused.
-    pub(crate) fn none_refused(self) -> bool
-        ensures { result ≡ nat_eq self.refused 0 }
-    {
-        self.refused == 0
+impl AnswerTaker for Counts {
+    ghost use Rattle.dnscheck.specs.Counts.{counting};
+
+    ghost taking = { counting };
+
+    fn accepted(&mut self, _number: u64, report: &Report) -> Result<(), OutOfMemory> {
+        *self = self.with_accepted(report.sets())?;
+        Ok(())
+    }
+
+    fn refused(&mut self, _number: u64, _cause: CheckError) -> Result<(), OutOfMemory> {
+        *self = self.with_refused()?;
+        Ok(())
     }
 }

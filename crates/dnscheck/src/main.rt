@@ -1,5 +1,5 @@
 //! The program `dnscheck`: it reads a script with trusted entries, a key, a request and signed answers, signs the request
-//! and checks the answers, one behind the other, and the signatures of the record sets in them.
+//! and checks the answers, one after the other, and the signatures of the record sets in them.
 #![tactic(auto)]
 
 mod command;
@@ -11,14 +11,13 @@ pub use command::Command;
 pub use dns_io::{
     Failed, MemSink, MemSource, PlainSource, Sink, Source, Status, StdSink, StdSource,
 };
-use dns_script::{behind_program_name, exit_code, status_without_words};
+use dns_script::{behind_program_name, command_words, exit_code};
 use sec_sign::KeyedHash;
+use std::io;
 use std::process::ExitCode;
-use std::{env, io};
 
 fn main(rt: HostRuntime) -> ExitCode {
-    let words = env::args(&rt).and_then(|args| Ok(args.collect::<Vec<String>>(rt.alloc())?));
-    exit_code(match words {
+    exit_code(match command_words(&rt) {
         Ok(words) => run::run(
             rt.alloc(),
             behind_program_name(&words),
@@ -26,7 +25,7 @@ fn main(rt: HostRuntime) -> ExitCode {
             &mut StdSource::new(rt.reader()),
             &mut StdSink::new(io::writer(&rt)),
         ),
-        Err(error) => status_without_words(&error),
+        Err(status) => status,
     })
 }
 

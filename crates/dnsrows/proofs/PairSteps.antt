@@ -7,9 +7,9 @@ use Rattle.dns_message.specs.declared.record.Record.{Record}
 use Rattle.dns_message.specs.OwnedMessages.{IsReadRecord}
 use Rattle.dns_message.specs.Parts.{record_view}
 use Rattle.sec_sigdata.specs.declared.sig_input.SigInput.{SigInput}
-use Rattle.sec_sign.specs.MessageSets.{set_octets}
-use Rattle.sec_sign.specs.Pairs.{SetName, ZoneKey, pair_verdict, record_verdict}
-use Rattle.sec_sign.specs.Signed.{signed, signed_of}
+use Rattle.sec_sign.specs.Sets.{SetName, set_octets}
+use Rattle.sec_sign.specs.Pairs.{ZoneKey, pair_verdict, record_verdict}
+use Rattle.sec_sign.specs.Signed.{set_covered, signed, signed_of}
 use Rattle.sec_check.proofs.ReadRecords.{signature_by_fields}
 use Rattle.dnsrows.specs.Pairs.{verdict_among}
 use Rattle.dnsrows.specs.Scheme.{keyed_hash}
@@ -27,6 +27,6 @@ pub signed_by_values : (input : SigInput) (n : List (List ℕ)) (k : ℕ) (recor
     → AllByRecursion IsReadRecord records
     → signed input n k records
     ≡ signed_of input n k
-    (set_octets (record { name = n; dns_class = k; rtype = input.type_covered }) (map record_view records))
+    (set_octets (set_covered n k input) (map record_view records))
 signed_by_values input n k records all =
-    ap (signed_of input n k) (set_by_values (record { name = n; dns_class = k; rtype = input.type_covered }) records all)
+    ap (signed_of input n k) (set_by_values (set_covered n k input) records all)

@@ -16,8 +16,9 @@ use Rattle.sec_sigdata.specs.Signatures.{SigData, sig_text}
 use Rattle.sec_sigdata.specs.declared.sig_input.SigInput.{SigInput}
 use Rattle.sec_sign.specs.declared.sign_error.SignError.{SignError}
 use Rattle.sec_sign.specs.Ascending.{ascending}
-use Rattle.sec_sign.specs.MessageSets.{set_of, set_octets}
-use Rattle.sec_sign.specs.Signed.{canonical_each, is_of, set_data, signed_under}
+use Rattle.sec_sign.specs.Sets.{SetName, canonical_each, members, set_data, set_octets, set_of, set_of_record}
+use Rattle.sec_sign.specs.Sets as sets
+use Rattle.sec_sign.specs.Signed.{set_covered, signed_under}
 use Rattle.sec_sign.specs.Signers.{SignerData}
 use Rattle.sec_sign.specs.Signing.{expiration_of, for_signature, serial_time, tag_to_sign, to_sign}
 use Rattle.dns_rows.specs.declared.refusal.Refusal.{Refusal}
@@ -26,34 +27,41 @@ use Rattle.dnsrows.proofs.SetValues.{set_by_values}
 
 -- ---- the records of the set, among those with its name and type
 
-not_of : (a c s : Bool) → (a && s) ≡ false → (a && (c && s)) ≡ false
-not_of true true s h = h
-not_of true false s h = refl
-not_of false c s h = refl
+not_of : (a c s : Bool) → (a && s) ≡ false → (s && (c && a)) ≡ false
+not_of true true true h = absurd cc
+not_of true false true h = refl
+not_of true c false h = refl
+not_of false true true h = refl
+not_of false false true h = refl
+not_of false c false h = refl
 
-again : (n : List (List ℕ)) (k t : ℕ) (records : List (Record RData))
-    → filter (is_of n k t) (filter (is_same n t) records) ≡ filter (is_of n k t) records
-again n k t [] = refl
-again n k t (rr ∷ rrs) = at (is_same n t rr) refl (again n k t rrs)
+abbrev is_of : SetName → Record RData → Bool
+is_of set rr = sets.same_set (set_of_record rr) set
+
+again : (set : SetName) (records : List (Record RData))
+    → filter (is_of set) (filter (is_same set.name set.rtype) records) ≡ filter (is_of set) records
+again set [] = refl
+again set (rr ∷ rrs) = at (is_same set.name set.rtype rr) refl (again set rrs)
   where
     others : List (Record RData)
-    others = filter (is_of n k t) rrs
+    others = filter (is_of set) rrs
 
-    at : (b : Bool) → is_same n t rr ≡ b → filter (is_of n k t) (filter (is_same n t) rrs) ≡ others
-        → filter (is_of n k t) (filter (is_same n t) (rr ∷ rrs)) ≡ filter (is_of n k t) (rr ∷ rrs)
-    at true is later = rw is (ap (λ (l : List (Record RData)). cond (is_of n k t rr) (rr ∷ l) l) later)
+    at : (b : Bool) → is_same set.name set.rtype rr ≡ b
+        → filter (is_of set) (filter (is_same set.name set.rtype) rrs) ≡ others
+        → filter (is_of set) (filter (is_same set.name set.rtype) (rr ∷ rrs)) ≡ filter (is_of set) (rr ∷ rrs)
+    at true is later = rw is (ap (λ (l : List (Record RData)). cond (is_of set rr) (rr ∷ l) l) later)
     at false is later =
-        let not : is_of n k t rr ≡ false =
-        not_of (eqb (rdata_type rr.rdata) t) (eqb rr.dns_class k) (same rr.name n) is in
+        let not : is_of set rr ≡ false =
+        not_of (eqb (rdata_type rr.rdata) set.rtype) (eqb rr.dns_class set.dns_class) (same rr.name set.name) is in
         rw (is, not) later
 
 abbrev pub same_set : List (List ℕ) → ℕ → ℕ → List (Record RData) → Rrset
 same_set n t ttl records = record { name = n; rtype = t; ttl = ttl; records = filter (is_same n t) records }
 
-data_again : (n : List (List ℕ)) (k t : ℕ) (records : List (Record RData))
-    → set_data n k t (filter (is_same n t) records) ≡ set_data n k t records
-data_again n k t records =
-    ap (λ (l : List (Record RData)). canonical_each l >>= λ cs. Ok (ascending cs)) (again n k t records)
+data_again : (set : SetName) (records : List (Record RData))
+    → set_data set (filter (is_same set.name set.rtype) records) ≡ set_data set records
+data_again set records =
+    ap (λ (l : List (Record RData)). canonical_each l >>= λ cs. Ok (ascending cs)) (again set records)
 
 -- ---- what is signed
 
@@ -79,9 +87,9 @@ first_set signer inception rr rrs read =
     t : ℕ
     t = rdata_type rr.rdata
 
-    same_data : set_data n rr.dns_class t (filter (is_same n t) (rr ∷ rrs))
+    same_data : set_data (set_of (record_view rr)) (filter (is_same n t) (rr ∷ rrs))
         ≡ set_octets (set_of (record_view rr)) (record_view rr ∷ map record_view rrs)
-    same_data = data_again n rr.dns_class t (rr ∷ rrs)
+    same_data = data_again (set_of (record_view rr)) (rr ∷ rrs)
         ∙ set_by_values (set_of (record_view rr)) (rr ∷ rrs) read
 
     header : ℤ → ℕ → SigInput
@@ -103,7 +111,7 @@ first_set signer inception rr rrs read =
     headed expiration tag = tag >>= λ tag. Ok (header expiration tag)
 
     at : (expiration : ℤ) (tag : Result ℕ SignError)
-        → (headed expiration tag >>= λ h. made h (set_data n rr.dns_class h.type_covered (filter (is_same n t) (rr ∷ rrs))))
+        → (headed expiration tag >>= λ h. made h (set_data (set_covered n rr.dns_class h) (filter (is_same n t) (rr ∷ rrs))))
         ≡ (headed expiration tag >>= λ h. made h (set_octets (set_of (record_view rr)) (record_view rr ∷ map record_view rrs)))
     at expiration (Ok tag) = ap (made (header expiration tag)) same_data
     at expiration (Err cause) = refl

@@ -10,8 +10,9 @@ use Rattle.dns_names.specs.NameText.{name_text}
 use Rattle.dns_grammar.specs.Messages.{ResourceRecord}
 use Rattle.dns_message.specs.declared.section.Section.TheVariants as sections
 use Rattle.sec_sigdata.specs.Signatures.{SigData}
-use Rattle.sec_sign.specs.MessageSets.{set_octets}
-use Rattle.sec_sign.specs.Signed.{signed_of}
+use Rattle.sec_sign.specs.MessageSignatures.{rrsig_in}
+use Rattle.sec_sign.specs.Sets.{set_octets}
+use Rattle.sec_sign.specs.Signed.{set_covered, signed_of}
 use Rattle.rrsig_input.specs.SignedSets.{signed_input}
 use Rattle.dns_rows.specs.declared.refusal.Refusal.{Refusal}
 use Rattle.dns_rows.specs.declared.refusal.Refusal.TheVariants.{NoCall}
@@ -19,7 +20,7 @@ use Rattle.dns_rows.specs.Refusals.{answer_text, input_refusal, tbs_refusal, wit
 use Rattle.dns_rows.specs.Rows.{hex_word}
 use Rattle.dns_rows.specs.CallTexts.{separated}
 use Rattle.dns_rows.specs.CallWords.{octets_in}
-use Rattle.dnsrows.specs.Messages.{message_in, octets_of_parts, of_message, signature_of}
+use Rattle.dnsrows.specs.Messages.{message_in, octets_of_parts, of_message}
 use Rattle.dnsrows.specs.Pairs.{pair_calls}
 
 -- ---- a line for a signature
@@ -47,10 +48,10 @@ abbrev pub covered_among : List ResourceRecord → ResourceRecord → SigData �
 covered_among answers rr sig =
     with_refusal tbs_refusal
     (signed_of sig.input rr.name rr.dns_class
-    (set_octets (record { name = rr.name; dns_class = rr.dns_class; rtype = sig.input.type_covered }) answers))
+    (set_octets (set_covered rr.name rr.dns_class sig.input) answers))
 
 abbrev pub covered_line : List ResourceRecord → ResourceRecord → List (List ℕ)
-covered_line answers rr = line_of (covered_among answers rr) (signature_of rr)
+covered_line answers rr = line_of (covered_among answers rr) (rrsig_in rr)
 
 abbrev pub covered_lines : List ResourceRecord → List (List ℕ)
 covered_lines answers = flat_map (covered_line answers) answers
@@ -61,7 +62,7 @@ covered_from octets rr =
     with_refusal input_refusal (signed_input octets sections.Answer rr.name rr.dns_class rr.start)
 
 abbrev pub placed_line : List ℕ → ResourceRecord → List (List ℕ)
-placed_line octets rr = line_of (λ _. covered_from octets rr) (signature_of rr)
+placed_line octets rr = line_of (λ _. covered_from octets rr) (rrsig_in rr)
 
 abbrev pub placed_lines : List ℕ → Result (List (List ℕ)) Refusal
 placed_lines octets = of_message (λ message. flat_map (placed_line octets) message.answers) octets

@@ -1,16 +1,13 @@
 -- The messages that calls are on.
-use Rattle.std.specs.Prelude.{◌≡◌, false, ℕ, List, map, Option, None, nat_eq, if◌then◌else◌, Result, Ok, Err}
+use Rattle.std.specs.Prelude.{◌≡◌, false, ℕ, List, map, Result, Ok, Err}
 use Rattle.dns_wire.specs.declared.encoder.NameEncoding.TheVariants.{Uncompressed}
 use Rattle.dns_wire.specs.declared.error.DecodeError.{DecodeError}
 use Rattle.dns_wire.specs.Reading.{◌>>=◌}
-use Rattle.dns_types.specs.TypeNumbers as types
 use Rattle.dns_grammar.specs.Messages.{Message, ResourceRecord, message_at}
 use Rattle.dns_grammar.specs.Laws.{unplaced_record}
 use Rattle.dns_grammar.specs.MessageWriting.{message_octets}
 use Rattle.dns_rdata.specs.RDataTable.{rdata_table}
 use Rattle.dns_message.specs.Parts.{Parts, parts_of, whole}
-use Rattle.sec_sigdata.specs.Signatures.{SigData}
-use Rattle.sec_sign.specs.MessageSets.{rrsig_from_values}
 use Rattle.dns_rows.specs.declared.refusal.Refusal.{Refusal}
 use Rattle.dns_rows.specs.Refusals.{decode_refusal, emit_refusal, with_refusal}
 use Rattle.dns_rows.specs.CallWords.{octets_in}
@@ -31,10 +28,6 @@ message_in word = octets_in word >>= of_message parts_of
 abbrev pub octets_of_parts : Parts → Result (List ℕ) Refusal
 octets_of_parts parts =
     with_refusal emit_refusal (message_octets false Uncompressed rdata_table (whole parts))
-
--- the signature that a record is: one of type RRSIG whose data are not empty
-abbrev pub signature_of : ResourceRecord → Option SigData
-signature_of rr = if nat_eq rr.rtype types.RRSIG then rrsig_from_values rr.rdata else None
 
 -- these are the answers of a message that was read, the places where they start aside
 abbrev pub AreAnswersOf : Result (Message × ℕ) DecodeError → List ResourceRecord → Type 0

@@ -10,10 +10,11 @@ use Rattle.dns_names.specs.NameText.{name_text}
 use Rattle.dns_types.specs.TypeNumbers as types
 use Rattle.dns_grammar.specs.Messages.{ResourceRecord}
 use Rattle.sec_sigdata.specs.Signatures.{SigData}
+use Rattle.sec_sign.specs.MessageSignatures.{rrsig_in}
 use Rattle.sec_sign.specs.declared.pair.PairVerdict.{PairVerdict}
 use Rattle.sec_sign.specs.declared.pair.PairVerdict.TheVariants.{NotMet, NotAccepted, Authentic}
-use Rattle.sec_sign.specs.MessageSets.{set_octets}
-use Rattle.sec_sign.specs.Pairs.{SetName, ZoneKey, rrsig_verdict}
+use Rattle.sec_sign.specs.Sets.{SetName, set_octets}
+use Rattle.sec_sign.specs.Pairs.{ZoneKey, rrsig_verdict}
 use Rattle.sec_sign.specs.Signed.{signed_owner}
 use Rattle.dns_rows.specs.declared.refusal.Refusal.{Refusal}
 use Rattle.dns_rows.specs.declared.refusal.Refusal.TheVariants.{NoCall}
@@ -21,7 +22,7 @@ use Rattle.dns_rows.specs.Refusals.{tbs_refusal, with_refusal}
 use Rattle.dns_rows.specs.CallTexts.{text_or_none}
 use Rattle.dns_rows.specs.CallWords.{first_four, name_in, class_in, type_in, number_in}
 use Rattle.dns_rows.specs.KeyWords.{key_in}
-use Rattle.dnsrows.specs.Messages.{message_in, signature_of}
+use Rattle.dnsrows.specs.Messages.{message_in}
 use Rattle.dnsrows.specs.Scheme.{keyed_hash}
 use Rattle.dnsrows.specs.Signing.{signing_calls}
 
@@ -39,7 +40,7 @@ first_rrsig = find (λ rr. nat_eq rr.rtype types.RRSIG)
 -- the verdict on a record and a key at a moment, for the set that is among these records
 abbrev pub verdict_among : ℕ → SetName → ZoneKey → List ResourceRecord → ResourceRecord → PairVerdict
 verdict_among moment set key answers rr =
-    rrsig_verdict keyed_hash moment set key (set_octets set answers) rr.name rr.dns_class (signature_of rr)
+    rrsig_verdict keyed_hash moment set key (set_octets set answers) rr.name rr.dns_class (rrsig_in rr)
 
 -- the verdict on the first record of type RRSIG among these, if there is one
 abbrev pub pair_text : ℕ → SetName → ZoneKey → List ResourceRecord → List ℕ
@@ -56,7 +57,7 @@ kept_by time rr sig = min rr.ttl (min sig.input.original_ttl (sig.input.sig_expi
 abbrev pub kept_for : ℕ → List ResourceRecord → Option ℕ
 kept_for time [] = None
 kept_for time (rr ∷ rrs) =
-    option_map (kept_by time rr) (option_and_then signature_of (first_rrsig (rr ∷ rrs)))
+    option_map (kept_by time rr) (option_and_then rrsig_in (first_rrsig (rr ∷ rrs)))
 
 -- ---- calls
 

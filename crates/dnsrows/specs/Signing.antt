@@ -17,7 +17,7 @@ use Rattle.sec_digest.specs.Hmac.{hmac}
 use Rattle.sec_sigdata.specs.declared.sig_input.SigInput.{SigInput}
 use Rattle.sec_sigdata.specs.Signatures.{SigData, sig_text}
 use Rattle.sec_sign.specs.declared.sign_error.SignError.{SignError}
-use Rattle.sec_sign.specs.MessageSets.{set_of, set_octets}
+use Rattle.sec_sign.specs.Sets.{set_octets, set_of}
 use Rattle.sec_sign.specs.Signed.{signed_under}
 use Rattle.sec_sign.specs.Signers.{SignerData}
 use Rattle.sec_sign.specs.Signing.{expiration_of, for_signature, header_of, to_sign}

@@ -12,19 +12,18 @@ mod signing;
 mod transactions;
 
 use dns_io::{Status, StdSink, StdSource};
-use dns_script::{behind_program_name, exit_code, status_without_words};
+use dns_script::{behind_program_name, command_words, exit_code};
+use std::io;
 use std::process::ExitCode;
-use std::{env, io};
 
 fn main(rt: HostRuntime) -> ExitCode {
-    let words = env::args(&rt).and_then(|args| Ok(args.collect::<Vec<String>>(rt.alloc())?));
-    exit_code(match words {
+    exit_code(match command_words(&rt) {
         Ok(words) => run::run(
             rt.alloc(),
             behind_program_name(&words),
             &mut StdSource::new(rt.reader()),
             &mut StdSink::new(io::writer(&rt)),
         ),
-        Err(error) => status_without_words(&error),
+        Err(status) => status,
     })
 }

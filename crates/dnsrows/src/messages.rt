@@ -5,8 +5,9 @@ ghost use Rattle.dns_wire.specs.Reading.{GivesUnless};
 ghost use Rattle.dns_message.specs.OwnedMessages.{IsReadMessage, IsReadRecord};
 ghost use Rattle.dns_message.specs.Parts.{message_parts, record_view};
 ghost use Rattle.sec_sigdata.specs.Signatures.{rrsig_data};
+ghost use Rattle.sec_sign.specs.MessageSignatures.{rrsig_in};
 ghost use Rattle.dns_rows.specs.declared.refusal.Refusal.TheVariants.{OutOfMemory as no_memory};
-ghost use Rattle.dnsrows.specs.Messages.{message_in, octets_of_parts, signature_of};
+ghost use Rattle.dnsrows.specs.Messages.{message_in, octets_of_parts};
 
 use dns_message::{Message, Record};
 use dns_rdata::{RData, RecordData};
@@ -38,7 +39,7 @@ pub(crate) fn message_octets(alloc: Global, message: &Message) -> Result<Vec<u8>
 #[tactic(auto, using(crate::proofs::Signatures::exits))]
 pub(crate) fn signature_of(rr: &Record<RData>) -> Option<&RRSIG>
     requires { IsReadRecord rr.now }
-    ensures { option_map rrsig_data (option_copied result) ≡ signature_of (record_view rr.now) }
+    ensures { option_map rrsig_data (option_copied result) ≡ rrsig_in (record_view rr.now) }
 {
     RRSIG::try_borrow(&rr.rdata)
 }

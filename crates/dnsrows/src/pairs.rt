@@ -7,7 +7,7 @@ ghost use Rattle.dns_text.specs.Words.{words};
 ghost use Rattle.dns_wire.specs.Reading.{GivesUnless};
 ghost use Rattle.dns_message.specs.OwnedMessages.{IsReadRecord};
 ghost use Rattle.dns_message.specs.Parts.{record_view};
-ghost use Rattle.sec_keydata.specs.DnsKeys.{dnskey_data};
+ghost use Rattle.sec_sign.specs.Pairs.{lent_key, set_named};
 ghost use Rattle.dns_rows.specs.declared.refusal.Refusal.TheVariants.{OutOfMemory as no_memory};
 ghost use Rattle.dnsrows.specs.Pairs.{verdict_word, first_rrsig, pair_text, kept_for, pair_answer};
 ghost use Rattle.dnsrows.specs.Pairs.{owner_answer, keep_answer, pair_calls};
@@ -15,16 +15,16 @@ ghost use Rattle.dnsrows.specs.Pairs.{owner_answer, keep_answer, pair_calls};
 use crate::messages::{message_in, signature_of};
 use crate::signing;
 use dns_message::Record;
-use dns_names::Name;
 use dns_rdata::RData;
 use dns_rows::Refusal;
 use dns_rows::call_words::{class_in, first_four, name_in, number_in, type_in};
 use dns_rows::key_words::key_in;
 use dns_text::{four_words, two_words};
-use dns_types::{DNSClass, RecordType};
+use dns_types::RecordType;
 use dns_wire::OutOfMemory;
-use sec_keydata::DNSKEY;
-use sec_sign::{AuthenticatedTtl, KeyedHash, PairVerdict, authenticates, determine_name};
+use sec_sign::{
+    AuthenticatedTtl, KeyedHash, PairVerdict, RrsetName, ZoneKey, authenticates, determine_name,
+};
 use std::alloc::Global;
 
 fn verdict_word(verdict: PairVerdict) -> &'static str
@@ -56,27 +56,18 @@ fn first_rrsig(records: &[Record<RData>]) -> Option<&Record<RData>>
 fn pair_text(
     alloc: Global,
     moment: u32,
-    name: &Name,
-    dns_class: DNSClass,
-    rtype: RecordType,
-    key_owner: &Name,
-    key_class: DNSClass,
-    key: &DNSKEY,
+    set: &RrsetName<'_>,
+    key: &ZoneKey<'_>,
     answers: &[Record<RData>],
 ) -> Result<String, OutOfMemory>
     requires { AllByRecursion IsReadRecord answers.now }
     ensures { IfOk result (λ text. string_bytes text
-        ≡ pair_text moment (record { name = name.now; dns_class = dns_class; rtype = rtype })
-        (record { owner = key_owner.now; dns_class = key_class; dnskey = dnskey_data key.now })
-        (map record_view answers.now)) }
+        ≡ pair_text moment (set_named set.now) (lent_key key.now) (map record_view answers.now)) }
 {
     let Some(rrsig) = first_rrsig(answers) else {
         return Ok(String::from_str(alloc, "none")?);
     };
-    let verdict = authenticates(
-        alloc, &KeyedHash, moment, name, dns_class, rtype, rrsig, key_owner, key_class, key,
-        answers,
-    )?;
+    let verdict = authenticates(alloc, &KeyedHash, moment, set, rrsig, key, answers)?;
     Ok(String::from_str(alloc, verdict_word(verdict))?)
 }
 
@@ -105,17 +96,17 @@ fn pair(alloc: Global, rest: &[u8]) -> Result<String, Refusal>
     let key_class = class_in(key_class)?;
     let key = key_in(alloc, key)?;
     let message = message_in(alloc, message)?;
-    Ok(pair_text(
-        alloc,
-        moment,
-        &name,
+    let set = RrsetName {
+        name: &name,
         dns_class,
         rtype,
-        &key_owner,
-        key_class,
-        &key,
-        message.answers.as_slice(),
-    )?)
+    };
+    let key = ZoneKey {
+        owner: &key_owner,
+        dns_class: key_class,
+        dnskey: &key,
+    };
+    Ok(pair_text(alloc, moment, &set, &key, message.answers.as_slice())?)
 }
 
 /// `owner NAME LABELS`: the owner as a signature with so many labels covers it.

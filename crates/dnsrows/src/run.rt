@@ -1,7 +1,8 @@
 //! The top call.
 ghost use Rattle.std.specs.Prelude.{◌≡◌, ◌≢◌, ◌≤◌, ◌+◌, ◌↔◌, [], IfSome};
-ghost use Rattle.dns_io.specs.Counts.{raised, Rose, RoseBy};
+ghost use Rattle.dns_io.specs.Counts.{raised, RoseBy};
 ghost use Rattle.dns_script.specs.Sessions.{ComesTo, WritesNothing, WritesText, SessionWritten};
+ghost use Rattle.dns_script.specs.Sessions.{read_faults_after, write_faults_after};
 ghost use Rattle.dns_rows.specs.Rows.{rows_session};
 ghost use Rattle.dnsrows.specs.Answers.{answer_line};
 
@@ -21,10 +22,10 @@ pub fn run<I: Source, O: Sink>(
     // Over every source and sink: what each status shows of the words and of the outside.
     ensures usage { (result ≢ Status.Usage) ↔ (words.now ≡ []) }
     ensures usage_reads_nothing { result ≡ Status.Usage → source.new ≡ source.old }
-    ensures read_fault { result ≡ Status.ReadFault → Rose (I.faults source.old) (I.faults source.new) }
+    ensures read_faults { I.faults source.new ≡ read_faults_after (I.faults source.old) result }
     ensures too_long { result ≡ Status.TooLong
         → RoseBy (INPUT_LIMIT + 1) (I.taken source.old) (I.taken source.new) }
-    ensures write_fault { result ≡ Status.WriteFault → Rose (O.faults sink.old) (O.faults sink.new) }
+    ensures write_faults { O.faults sink.new ≡ write_faults_after (O.faults sink.old) result }
     ensures taken_at_most { I.taken source.new ≤ raised (I.taken source.old) (INPUT_LIMIT + 1) }
     ensures nothing_written { WritesNothing result → sink.new ≡ sink.old }
 

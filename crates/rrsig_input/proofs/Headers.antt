@@ -1,32 +1,16 @@
--- The octets before the data of the records that are signed.
-use Rattle.std.proofs.Common.{◌≡◌, ℕ, ◌+◌, List, ◌++◌, length, refl, ap, arith}
-use Rattle.std.proofs.Common.{append_assoc, length-append, append-nil}
-use Rattle.std.specs.Int.{to_be_bytes, w8}
-use Rattle.dns_wire.specs.Octets.{two_octets, four_octets}
-use Rattle.dns_names.specs.Names.{low, wire}
+-- How many octets come before the data of the records that are signed.
+use Rattle.std.proofs.Common.{◌≡◌, ℕ, ◌+◌, List, length, arith, length-append}
+use Rattle.dns_names.specs.Names.{wire}
 use Rattle.dns_names.specs.NameLaws.{length-wire-low}
-use Rattle.sec_codes.specs.Algorithms.{number}
+use Rattle.dns_grammar.specs.Messages.{ResourceRecord}
 use Rattle.sec_sigdata.specs.declared.sig_input.SigInput.{SigInput}
-use Rattle.sec_sign.specs.Signed.{header_octets, record_front}
+use Rattle.sec_sign.specs.Signed.{header_octets, record_octets}
 
--- the fields of an RRSIG before its signature: the kind of signature, the times, the signer
-pub header_parts : (h : SigInput)
-    → (two_octets h.type_covered ++ to_be_bytes w8 (number h.algorithm) ++ to_be_bytes w8 h.num_labels
-    ++ four_octets h.original_ttl)
-    ++ (four_octets h.sig_expiration.0 ++ four_octets h.sig_inception.0 ++ two_octets h.key_tag)
-    ++ wire (low h.signer_name)
-    ≡ header_octets h
+pub header_length : (input : SigInput) → length (header_octets input) ≡ 18 + length (wire input.signer_name)
 unfolding header_octets
-header_parts h = simp (append_assoc, append-nil) refl
+header_length input = simp length-append (omega (arith, length-wire-low input.signer_name))
 
-pub header_length : (h : SigInput) → length (header_octets h) ≡ 18 + length (wire h.signer_name)
-header_length h =
-    let long = ap length (header_parts h) in
-    omega (arith, long, length-wire-low h.signer_name)
-
-pub front_length : (owner : List (List ℕ)) (t k ttl : ℕ)
-    → length (record_front owner t k ttl) ≡ length (wire owner) + 8
-unfolding record_front
-front_length owner t k ttl = simp length-append (omega (arith, length-wire-low owner))
-
-pub ruleset lengths = (length-wire-low)
+pub record_length : (head : ResourceRecord) (rdata : List ℕ)
+    → length (record_octets head rdata) ≡ length (wire head.name) + 10 + length rdata
+unfolding record_octets
+record_length head rdata = simp length-append (omega arith)

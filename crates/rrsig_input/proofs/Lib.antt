@@ -1,4 +1,4 @@
-pub mod Rooms
+pub mod Walks
 pub mod Headers
 pub mod RrsigSteps
 pub mod Records
@@ -7,3 +7,4 @@ pub mod InputSteps
 pub mod SetSteps
 pub mod AnswerSteps
 pub mod PlaceLists
+pub mod CanonicalLengths

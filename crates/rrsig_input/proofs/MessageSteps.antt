@@ -28,13 +28,10 @@ use Rattle.message_walk.specs.Copies.{Fills}
 use Rattle.message_walk.specs.Places.{data_at, data_of, if_short, message_places, place_of, record_from, section_records}
 use Rattle.message_walk.specs.Places.{places_at, section_places}
 use Rattle.sec_sign.specs.Ascending.{ascending}
-use Rattle.sec_sign.specs.MessageSets.{same_set, set_octets, set_of}
-use Rattle.sec_sign.specs.Pairs.{SetName}
-use Rattle.sec_sign.specs.Signed.{for_each}
+use Rattle.sec_sign.specs.Sets.{SetName, for_each, same_set, set_octets, set_of}
 use Rattle.rrsig_input.specs.declared.input_error.InputError.{InputError}
-use Rattle.rrsig_input.specs.SignedSets.{input_at}
-use Rattle.rrsig_input.specs.Walks.{data_among, data_of_each, input_among, input_read, is_head_of, is_place_of, or_too_long}
-use Rattle.rrsig_input.specs.Walks.{same_section}
+use Rattle.rrsig_input.specs.SignedSets.{input_at, input_read, is_head_of, is_place_of, or_too_long, same_section}
+use Rattle.rrsig_input.proofs.Walks.{data_of_each, input_among}
 
 -- ---- each record is read where it starts
 
@@ -313,7 +310,7 @@ one_section m sections.Additional set message =
     ++ (others m sections.Additional sections.Authority set message.authorities refl i
     ++ chosen m sections.Additional set sections.Additional message.additionals))
 
-section_read : (m : List ℕ) (section : Section) (message : Message) → AreRead m message
+pub section_read : (m : List ℕ) (section : Section) (message : Message) → AreRead m message
     → AllByRecursion (IsRead m) (section_records section message)
 section_read m sections.Answer message read = read.answers
 section_read m sections.Authority message read = read.authorities
@@ -330,7 +327,7 @@ ascending_first (Ok cs) = refl
 ascending_first (Err cause) = refl
 
 pub set_is : (m : List ℕ) (section : Section) (set : SetName) (message : Message) → AreRead m message
-    → data_among m section set (message_places m message)
+    → (data_of_each m section set (message_places m message) >>= λ cs. Ok (ascending cs))
     ≡ or_too_long (set_octets set (section_records section message))
 set_is m section set message read =
     ap (λ (places : List RecordPlace). or_too_long (for_each (λ place. data_at m place.start) places)

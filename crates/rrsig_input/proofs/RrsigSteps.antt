@@ -1,6 +1,6 @@
 -- The fields of an RRSIG before its signature, as they are read at the place where its record starts.
 use Rattle.std.proofs.Common.{◌≡◌, ℕ, ◌+◌, Bool, true, false, eqb, ltb, List, [], ◌∷◌, ◌++◌, length, slice_range}
-use Rattle.std.proofs.Common.{Option, Some, None, Result, Ok, Err, refl, sym, ap, ◌∙◌, eq-eqb, if◌then◌else◌}
+use Rattle.std.proofs.Common.{Option, Some, None, option_map, Result, Ok, Err, refl, sym, ap, ◌∙◌, eq-eqb, if◌then◌else◌}
 use Rattle.std.proofs.lemmas.Bool.{eqb-true}
 use Rattle.dns_wire.specs.declared.error.DecodeError.{DecodeError}
 use Rattle.dns_wire.specs.declared.error.DecodeError.TheVariants.{InsufficientBytes}
@@ -15,9 +15,12 @@ use Rattle.sec_sigdata.specs.SignatureRows.{sig_row}
 use Rattle.sec_sigdata.specs.Signatures.{input_row, input_values}
 use Rattle.dns_rdata.specs.RDataTable.{rdata_table}
 use Rattle.message_walk.specs.Places.{record_from}
-use Rattle.sec_sign.specs.MessageSets.{rrsig_from_values}
-use Rattle.rrsig_input.specs.SignedSets.{input_from}
-use Rattle.rrsig_input.specs.Walks.{input_read}
+use Rattle.sec_sigdata.specs.Signatures.{SigData}
+use Rattle.sec_sign.specs.MessageSignatures.{rrsig_from_values}
+use Rattle.rrsig_input.specs.SignedSets.{input_read}
+
+abbrev input_from : Option SigData → Option SigInput
+input_from = option_map (λ rrsig. rrsig.input)
 
 -- ---- the head
 

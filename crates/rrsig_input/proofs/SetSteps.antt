@@ -7,13 +7,18 @@ use Rattle.dns_wire.specs.Reading.{◌>>=◌}
 use Rattle.dns_message.specs.declared.section.Section.{Section}
 use Rattle.message_walk.specs.declared.data_error.DataError.{DataError}
 use Rattle.message_walk.specs.declared.record_place.RecordPlace.{RecordPlace}
+use Rattle.dns_wire.specs.declared.error.DecodeError.{DecodeError}
+use Rattle.dns_wire.proofs.FieldLaws.{bind_ok, is_ok_same}
+use Rattle.dns_grammar.specs.Messages.{Message, message_at}
+use Rattle.dns_rdata.specs.RDataTable.{rdata_table}
 use Rattle.message_walk.specs.Places.{data_at, places_at}
 use Rattle.sec_sign.specs.Ascending.{ascending, octets_cmp}
-use Rattle.sec_sign.specs.Pairs.{SetName}
+use Rattle.sec_sign.specs.Sets.{SetName}
 use Rattle.rrsig_input.specs.declared.input_error.InputError.{InputError}
 use Rattle.rrsig_input.specs.declared.input_error.InputError.TheVariants as causes
-use Rattle.rrsig_input.proofs.MessageSteps.{each_stands, few_places, short_message}
-use Rattle.rrsig_input.specs.Walks.{data_found, data_of_each, is_place_of, or_too_long}
+use Rattle.rrsig_input.specs.SignedSets.{is_place_of, or_too_long, set_in}
+use Rattle.rrsig_input.proofs.MessageSteps.{are_read, each_stands, few_places, set_is, short_message}
+use Rattle.rrsig_input.proofs.Walks.{data_of_each}
 
 -- ---- the data of a record
 
@@ -47,9 +52,14 @@ Each = Result (List (List ℕ)) DataError
 
 -- the data of a set are those of its records, put one after the other among none
 pub from_none : (m : List ℕ) (section : Section) (set : SetName) (left : List RecordPlace)
-    → places_at m ≡ Ok left → put_each [] (data_of_each m section set left) ≡ data_found m section set (places_at m)
+    → places_at m ≡ Ok left
+    → put_each [] (data_of_each m section set left) ≡ set_in (message_at rdata_table m) section set
 unfolding ascending
-from_none m section set left read = sym (ap (data_found m section set) read)
+from_none m section set left is =
+    let read = bind_ok (message_at rdata_table m) _ left is in
+    sym (ap (λ (places : List RecordPlace). put_each [] (data_of_each m section set places)) (is_ok_same _ left read.2))
+    ∙ set_is m section set read.0.0 (are_read m read.0.0 read.0.1 read.1)
+    ∙ sym (ap (λ (r : Result (Message × ℕ) DecodeError). set_in r section set) read.1)
 
 moved : (so_far : List (List ℕ)) (c : List ℕ) (others : Each)
     → put_each so_far (or_too_long (others >>= λ cs. Ok (c ∷ cs)))

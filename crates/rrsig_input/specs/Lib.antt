@@ -1,4 +1,3 @@
 pub mod Rooms
 pub mod SignedSets
-pub mod Walks
 pub mod ErrorTexts

@@ -7,7 +7,7 @@ use message_walk::{DataBuffer, PLACES, copy_canonical, empty_cache};
 use std::cmp::Ordering;
 use std::marker::Model;
 
-/// Room in which the data of two records of a message are compared. A contract sees the octets of the message.
+/// Buffers in which the data of two records of a message are compared. A contract sees the octets of the message.
 #[derive(Drop)]
 pub(crate) struct DataOrder<'a> {
     message: &'a [u8],
@@ -28,7 +28,7 @@ impl<'a> Model for DataOrder<'a> {
 }
 
 impl<'a> DataOrder<'a> {
-    /// Room for the records of a message.
+    /// Buffers for the records of a message.
     pub(crate) fn new(message: &'a [u8]) -> DataOrder<'a>
         ensures { result ≡ message.now }
     {
@@ -53,7 +53,7 @@ impl<'a> DataOrder<'a> {
 impl<'a> DataByPlace for DataOrder<'a> {
     ghost use Rattle.std.specs.Prelude.{List, ℕ, IsOk};
     ghost use Rattle.message_walk.specs.Places.{data_at};
-    ghost use Rattle.rrsig_input.specs.Walks.{data_from};
+    ghost use Rattle.rrsig_input.specs.SignedSets.{data_from};
 
     ghost Source = { List ℕ };
 

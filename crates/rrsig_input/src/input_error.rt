@@ -6,7 +6,7 @@ use std::fmt;
 /// answered.
 #[derive(Clone, Copy, Debug, PartialEq, Eq)]
 pub enum InputError {
-    /// No message stands in the octets.
+    /// The octets are no message.
     NoMessage,
     /// No RRSIG starts at the place, or it has no data.
     NoRrsig,

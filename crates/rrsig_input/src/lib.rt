@@ -3,14 +3,13 @@
 
 mod covered_octets;
 mod data_order;
-mod header;
 mod input_error;
+pub mod laws;
 mod place_list;
+mod placed_set;
 mod rrsig_fields;
 mod set_name;
 mod set_places;
-mod signed_octets;
-mod writing;
 
 pub use covered_octets::signed_input;
 pub use input_error::InputError;

@@ -7,20 +7,20 @@ ghost use Rattle.sec_sign.specs.Ascending.{octets_cmp, Ascend};
 use std::cmp::Ordering;
 use std::marker::Model;
 
-/// More records than a message of 65,535 octets has: each takes eleven or more, behind a header of twelve.
+/// More records than a message of 65,535 octets has: each takes eleven or more, after a header of twelve.
 pub(crate) const RECORD_LIMIT: usize = 5957;
 
 /// What compares the data of records by the places where they start.
 pub(crate) trait DataByPlace {
     ghost use Rattle.std.specs.Prelude.{ℕ, List};
 
-    // what records stand in, as the octets of a message
+    // where records are, as the octets of a message
     ghost Source: { Type 0 };
 
-    // what these records stand in
+    // where these records are
     ghost source: { Self → Source };
 
-    // that a record with data stands at a place
+    // that there is a record with data at a place
     ghost stands: { Source → ℕ → Type 0 };
 
     // the data of the record at a place in canonical form
@@ -70,7 +70,7 @@ impl PlaceList {
         &self.places[..self.count]
     }
 
-    /// Puts a place where its data belong, unless equal data stand there already: after thirteen comparisons at most.
+    /// Puts a place where its data belong, unless equal data are there already: after thirteen comparisons at most.
     pub(crate) fn insert<D: DataByPlace>(&mut self, place: u16, records: &mut D)
         requires room { length self.old < 5957 }
         requires listed { All (D.stands (D.source records.old)) self.old }
@@ -101,7 +101,7 @@ impl PlaceList {
     }
 }
 
-/// The index at which a place belongs among places whose data ascend; None where equal data stand among them.
+/// The index at which a place belongs among places whose data ascend; None where equal data are among them.
 fn gap_for<D: DataByPlace>(places: &[u16], place: u16, records: &mut D) -> Option<usize>
     requires listed { All (D.stands (D.source records.old)) places.now }
     requires stands { D.stands (D.source records.old) place }

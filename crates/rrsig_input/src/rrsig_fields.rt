@@ -2,8 +2,10 @@
 ghost use Rattle.std.specs.Prelude.{◌≡◌, ◌≤◌, Ok, length};
 ghost use Rattle.dns_wire.specs.Reading.{Gives};
 ghost use Rattle.dns_names.specs.PointerCache.{IsPointerCache};
+ghost use Rattle.dns_grammar.specs.Messages.{message_at};
+ghost use Rattle.dns_rdata.specs.RDataTable.{rdata_table};
 ghost use Rattle.message_walk.specs.Places.{places_at, record_from};
-ghost use Rattle.rrsig_input.specs.Walks.{input_found, input_read};
+ghost use Rattle.rrsig_input.specs.SignedSets.{input_in, input_read};
 
 use crate::input_error::InputError;
 use dns_grammar::data_end;
@@ -51,7 +53,7 @@ pub(crate) fn find_input(
 ) -> Result<SigInput, InputError>
     requires message { walk.message ≡ message.now }
     requires whole { places_at message.now ≡ Ok walk.left }
-    ensures { Gives (λ input. input) result (input_found message.now start (places_at message.now)) }
+    ensures { Gives (λ input. input) result (input_in (message_at rdata_table message.now) start) }
 {
     let mut cache = empty_cache();
     'records: while let Some(place) = walk.next(&mut cache) {

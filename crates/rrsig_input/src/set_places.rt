@@ -1,21 +1,23 @@
-//! Where the records of a set stand in a message, in the order of their data (RFC 4034 6.3).
+//! Where the records of a set are in a message, in the order of their data (RFC 4034 6.3).
 ghost use Rattle.std.specs.Prelude.{◌≡◌, ◌+◌, ◌<◌, ◌≤◌, ◌^◌, IfOk, IsErr, IsOk, MatchResult, Ok, OnOk, length, map};
 ghost use Rattle.std.specs.BTreeSet.{insert_key};
 ghost use Rattle.std.specs.List.{All};
 ghost use Rattle.dns_wire.specs.Reading.{Gives};
 ghost use Rattle.dns_names.specs.PointerCache.{IsPointerCache};
+ghost use Rattle.dns_grammar.specs.Messages.{message_at};
+ghost use Rattle.dns_rdata.specs.RDataTable.{rdata_table};
 ghost use Rattle.message_walk.specs.Places.{data_at, places_at, record_from};
-ghost use Rattle.rrsig_input.specs.Walks.{data_found, data_from, is_place_of, same_section};
 ghost use Rattle.sec_sign.specs.Ascending.{Ascend, octets_cmp};
+ghost use Rattle.sec_sign.specs.Pairs.{set_named};
+ghost use Rattle.rrsig_input.specs.SignedSets.{data_from, is_place_of, same_section, set_in};
 
 use crate::data_order::DataOrder;
 use crate::input_error::InputError;
 use crate::place_list::PlaceList;
 use crate::set_name::is_of_set;
 use dns_message::Section;
-use dns_names::Name;
-use dns_types::{DNSClass, RecordType};
 use message_walk::{RecordPlace, RecordWalk, empty_cache};
+use sec_sign::RrsetName;
 
 /// Whether two sections are one.
 fn same_section(section: Section, other: Section) -> bool
@@ -24,27 +26,23 @@ fn same_section(section: Section, other: Section) -> bool
     section == other
 }
 
-/// Whether a record of a section has this name, class and type, and stands in that section.
+/// Whether a record is of a set of a section.
 fn is_place_of(
     message: &[u8],
     place: &RecordPlace,
     section: Section,
-    name: &Name,
-    dns_class: DNSClass,
-    rtype: RecordType,
+    set: &RrsetName<'_>,
     cache: &mut [u16],
 ) -> bool
     requires inside { place.now.start ≤ length message.now }
     requires cache { IsPointerCache message.now cache.old }
     ensures cache { IsPointerCache message.now cache.new }
-    ensures exact { result ≡ is_place_of message.now section
-        (record { name = name.now; dns_class = dns_class; rtype = rtype }) place.now }
+    ensures exact { result ≡ is_place_of message.now section (set_named set.now) place.now }
 {
-    same_section(place.section, section)
-        && is_of_set(message, place.start, name, dns_class, rtype, cache)
+    same_section(place.section, section) && is_of_set(message, place.start, set, cache)
 }
 
-/// Puts a record to those of its set, unless one with equal data stands there already.
+/// Puts a record to those of its set, unless one with equal data is there already.
 ///
 /// `DataTooLong` where its data don't fit a record in canonical form.
 #[tactic(auto, using(crate::proofs::SetSteps::data_steps))]
@@ -75,24 +73,24 @@ fn put_place(
     Ok(())
 }
 
-/// Where the records of a section stand that have this name, class and type, in the order of their data, and each of
-/// equal data once, found by a walk over all records of the message.
+/// Where the records of a set of a section are, in the order of their data, and each of equal data once, found by a walk
+/// over all records of the message.
 ///
 /// `DataTooLong` where the data of such a record don't fit a record in canonical form.
+///
+/// It is never a part of its callers, so that they don't hold its buffers on the stack.
+#[inline(never)]
 #[tactic(auto, using(crate::proofs::SetSteps::set_steps))]
 pub(crate) fn places_of_set(
     message: &[u8],
     mut walk: RecordWalk<'_>,
     section: Section,
-    name: &Name,
-    dns_class: DNSClass,
-    rtype: RecordType,
+    set: &RrsetName<'_>,
 ) -> Result<PlaceList, InputError>
     requires message { walk.message ≡ message.now }
     requires whole { places_at message.now ≡ Ok walk.left }
     ensures exact { Gives (map (data_from message.now)) result
-        (data_found message.now section (record { name = name.now; dns_class = dns_class; rtype = rtype })
-        (places_at message.now)) }
+        (set_in (message_at rdata_table message.now) section (set_named set.now)) }
     ensures listed { IfOk result (All (λ place. IsOk (data_at message.now place))) }
     ensures few { IfOk result (λ places. length places ≤ 5957) }
 {
@@ -100,7 +98,7 @@ pub(crate) fn places_of_set(
     let mut order = DataOrder::new(message);
     let mut places = PlaceList::new();
     'records: while let Some(place) = walk.next(&mut cache) {
-        if is_place_of(message, &place, section, name, dns_class, rtype, &mut cache) {
+        if is_place_of(message, &place, section, set, &mut cache) {
             put_place(&mut places, &mut order, place.start)?;
         }
     }

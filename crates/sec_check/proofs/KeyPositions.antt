@@ -14,12 +14,11 @@ use Rattle.dns_names.specs.Names.{same}
 use Rattle.dns_names.specs.NameLaws.{same_ties}
 use Rattle.sec_codes.specs.Algorithms.{number}
 use Rattle.sec_keydata.specs.declared.key_data_error.KeyDataError.{KeyDataError}
-use Rattle.sec_keydata.specs.KeyTags.{dnskey_tag}
+use Rattle.sec_keydata.specs.KeyTags.{dnskey_tag, is_tag}
 use Rattle.sec_anchor.specs.declared.entry.Entry.{Entry}
 use Rattle.sec_anchor.specs.Entries.{EntryData, entry_data}
 use Rattle.sec_sign.specs.declared.pair.PairVerdict.{PairVerdict}
 use Rattle.sec_sign.specs.declared.pair.PairVerdict.TheVariants.{NotMet}
-use Rattle.sec_sign.specs.Pairs.{is_tag}
 use Rattle.sec_check.specs.declared.key_lookup.KeyLookup.{KeyLookup}
 use Rattle.sec_check.specs.Indexes.{is_named, key_name_cmp, key_tagged, name_of_key, positions_from, strongest_at}
 use Rattle.sec_check.specs.Indexes.{values_at, verdict_at}

@@ -8,8 +8,7 @@ use Rattle.std.proofs.lemmas.Cmp.{nat_eq_equiv}
 use Rattle.std.proofs.lemmas.List.Folds.{list_any-append}
 use Rattle.dns_names.specs.Names.{same}
 use Rattle.dns_names.specs.NameLaws.{same_ties}
-use Rattle.sec_sign.specs.MessageSets.{same_set}
-use Rattle.sec_sign.specs.Pairs.{SetName}
+use Rattle.sec_sign.specs.Sets.{SetName, same_set}
 use Rattle.sec_check.specs.declared.rrset_key.RrsetKey.{RrsetKey}
 use Rattle.sec_check.specs.RecordSets.{with_new}
 use Rattle.sec_check.proofs.Orders.{and_same, both_equal, same_equiv}

@@ -10,7 +10,8 @@ use Rattle.sec_sigdata.specs.Signatures.{SigData}
 use Rattle.sec_anchor.specs.Entries.{EntryData}
 use Rattle.sec_sign.specs.declared.pair.PairVerdict.{PairVerdict}
 use Rattle.sec_sign.specs.declared.pair.PairVerdict.TheVariants.{NotMet}
-use Rattle.sec_sign.specs.Pairs.{SetName, SignatureRecord, record_verdict, covers_set, is_within_times}
+use Rattle.sec_sign.specs.Pairs.{SignatureRecord, record_verdict, covers_set, is_within_times}
+use Rattle.sec_sign.specs.Sets.{SetName}
 use Rattle.sec_sign.specs.Pairs.{may_sign, names_key}
 use Rattle.sec_sign.specs.Verifying.{Relation}
 use Rattle.sec_check.specs.declared.key_lookup.KeyLookup.{KeyLookup}

@@ -14,10 +14,9 @@ use Rattle.dns_message.specs.OwnedMessages.{IsReadRecord}
 use Rattle.dns_message.specs.Parts.{record_view}
 use Rattle.sec_sign.specs.declared.pair.PairVerdict.{PairVerdict}
 use Rattle.sec_sign.specs.declared.pair.PairVerdict.TheVariants.{NotMet, NotAccepted, Authentic}
-use Rattle.sec_sign.specs.MessageSets.{set_octets}
-use Rattle.sec_sign.specs.Pairs.{SetName, SignatureRecord, ZoneKey, covers_set, record_verdict, rrsig_verdict}
+use Rattle.sec_sign.specs.Sets.{SetName, set_data, set_octets}
+use Rattle.sec_sign.specs.Pairs.{SignatureRecord, ZoneKey, covers_set, record_verdict, rrsig_verdict}
 use Rattle.sec_sign.specs.Pairs.{signature_record}
-use Rattle.sec_sign.specs.Signed.{set_data}
 use Rattle.sec_sign.specs.Verifying.{Relation}
 use Rattle.sec_check.specs.Marks.{Trust, has_met, is_authentic, mark, mark_by}
 use Rattle.sec_check.specs.Marks.{signature_of_record, some_pair, stronger, strongest, strongest_on, strongest_pair}
@@ -147,7 +146,7 @@ whole_mark trust set records read =
 pub held_mark : (trust : Trust) (set : SetName) (records : List (Record RData))
     → AllByRecursion IsReadRecord records → forms_rrset set.rtype ≡ true
     → mark_by (strongest_pair trust set
-    (set_data set.name set.dns_class set.rtype (filter (is_record_of set) records))
+    (set_data set (filter (is_record_of set) records))
     (map signature_record (filter (is_signature_of set) records)))
     ≡ mark trust (map record_view records) set
 held_mark trust set records read forms =

@@ -6,7 +6,6 @@ use Rattle.dns_wire.specs.Lookup.{lookup}
 use Rattle.dns_types.specs.TypeNumbers as types
 use Rattle.dns_grammar.specs.Fields.{Value}
 use Rattle.dns_grammar.specs.RecordData.{canon}
-use Rattle.sec_sigdata.specs.declared.rrsig.RRSIG.{RRSIG}
 use Rattle.sec_sigdata.specs.Signatures.{SigData, SigIsByNumber, rrsig_data, sig_values}
 use Rattle.dns_rdata.specs.declared.dnssec_rdata.DNSSECRData.{DNSSECRData}
 use Rattle.dns_rdata.specs.declared.dnssec_rdata.DNSSECRData.TheVariants as dnssec
@@ -17,9 +16,9 @@ use Rattle.dns_rdata.specs.RDataTable.{rdata_table}
 use Rattle.dns_rdata.proofs.TableLaws.{canon_of_type}
 use Rattle.dns_message.specs.declared.record.Record.{Record}
 use Rattle.dns_message.specs.Parts.{record_view}
-use Rattle.sec_sign.specs.MessageSets.{rrsig_from_values}
+use Rattle.sec_sign.specs.MessageSignatures.{rrsig_from_values}
 use Rattle.sec_sign.specs.Pairs.{rrsig_of, signature_record}
-use Rattle.sec_sign.specs.Signed.{canonical}
+use Rattle.sec_sign.specs.Sets.{canonical}
 use Rattle.sec_check.specs.Marks.{signature_of_record}
 
 -- ---- signatures

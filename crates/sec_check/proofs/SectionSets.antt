@@ -4,8 +4,7 @@ use Rattle.std.proofs.Common.{map, drop, length, get_or, arith, append_assoc}
 use Rattle.std.specs.List.{AllByRecursion, filter}
 use Rattle.std.proofs.lemmas.List.{drop_more}
 use Rattle.dns_grammar.specs.Messages.{ResourceRecord}
-use Rattle.sec_sign.specs.MessageSets.{same_set}
-use Rattle.sec_sign.specs.Pairs.{SetName}
+use Rattle.sec_sign.specs.Sets.{SetName, same_set}
 use Rattle.sec_check.specs.declared.rrset_key.RrsetKey.{RrsetKey}
 use Rattle.sec_check.specs.declared.set_proof.SetProof.{SetProof}
 use Rattle.sec_check.specs.RecordSets.{firsts, forms_rrset, listed, record_sets}

@@ -1,5 +1,5 @@
 -- One more record of a section, sorted by its set.
-use Rattle.std.proofs.Common.{◌≡◌, refl, sym, ap, ◌∙◌, Bool, true, false, cond, ◌&&◌, List, [], ◌∷◌, ◌++◌, map, Option, if◌then◌else◌}
+use Rattle.std.proofs.Common.{◌≡◌, refl, sym, ap, ◌∙◌, Bool, true, false, cond, List, [], ◌∷◌, ◌++◌, map, Option, if◌then◌else◌}
 use Rattle.std.proofs.Common.{Some, None, is_some, append-nil}
 use Rattle.std.specs.List.{filter}
 use Rattle.std.specs.Ordering.{is_eq}
@@ -13,8 +13,8 @@ use Rattle.dns_rdata.specs.declared.rdata.RData.TheVariants as rdata
 use Rattle.dns_rdata.specs.RData.{rdata_type}
 use Rattle.dns_message.specs.declared.record.Record.{Record}
 use Rattle.dns_message.specs.Parts.{record_view}
-use Rattle.sec_sign.specs.MessageSets.{same_set, set_of}
-use Rattle.sec_sign.specs.Pairs.{SetName, rrsig_of, signature_record}
+use Rattle.sec_sign.specs.Sets.{SetName, same_set, set_of}
+use Rattle.sec_sign.specs.Pairs.{rrsig_of, signature_record}
 use Rattle.sec_check.specs.declared.rrset_key.RrsetKey.{RrsetKey}
 use Rattle.sec_check.specs.RecordSets.{firsts, forms_rrset, listed, record_sets, with_new}
 use Rattle.sec_check.specs.SectionRecords.{IsSorted, covered_set, is_record_of, is_set, is_signature_of, key_cmp, key_of}

@@ -15,52 +15,40 @@ use Rattle.dns_message.specs.declared.record.Record.{Record}
 use Rattle.dns_message.specs.OwnedMessages.{IsReadRecord}
 use Rattle.dns_message.specs.Parts.{record_view}
 use Rattle.sec_sign.specs.Ascending.{ascending}
-use Rattle.sec_sign.specs.MessageSets.{same_set, set_octets, set_of}
-use Rattle.sec_sign.specs.Pairs.{SetName}
-use Rattle.sec_sign.specs.Signed.{canonical_each, for_each, is_of, set_data}
+use Rattle.sec_sign.specs.Sets.{SetName, canonical_each, for_each, members, same_set, set_data, set_octets, set_of, set_of_record}
 use Rattle.sec_check.specs.RecordSets.{forms_rrset}
 use Rattle.sec_check.specs.SectionRecords.{is_record_of}
 use Rattle.sec_check.proofs.ReadRecords.{canonical_by_fields}
 
 abbrev of_set : SetName → Record RData → Bool
-of_set set = is_of set.name set.dns_class set.rtype
-
-turned : (s c t : Bool) → (s && (c && t)) ≡ (t && (c && s))
-turned true true true = refl
-turned true true false = refl
-turned true false true = refl
-turned true false false = refl
-turned false true true = refl
-turned false true false = refl
-turned false false true = refl
-turned false false false = refl
+of_set set rr = same_set (set_of_record rr) set
 
 -- a record is held for a set exactly where it is of the set
 held_for : (set : SetName) (rr : Record RData) → forms_rrset set.rtype ≡ true → is_record_of set rr ≡ of_set set rr
 held_for set rr forms = at (eqb (rdata_type rr.rdata) set.rtype) refl
   where
-    none : (f s c : Bool) → (f && (s && (c && false))) ≡ false
-    none true true true = refl
-    none true true false = refl
-    none true false c = refl
-    none false s c = refl
+    none : (f s c : Bool) → (f && (s && (c && false))) ≡ (s && (c && false))
+    none true s c = refl
+    none false true true = refl
+    none false true false = refl
+    none false false c = refl
 
     at : (b : Bool) → eqb (rdata_type rr.rdata) set.rtype ≡ b → is_record_of set rr ≡ of_set set rr
     at true is =
         let formed : forms_rrset (rdata_type rr.rdata) ≡ true = ap forms_rrset (eqb-true _ _ is) ∙ forms in
-        rw (formed, is) (turned (same rr.name set.name) (eqb rr.dns_class set.dns_class) true)
+        rw formed refl
     at false is = rw is (none (forms_rrset (rdata_type rr.rdata)) (same rr.name set.name)
         (eqb rr.dns_class set.dns_class))
 
 -- those that are of the set, among those that are held for it
 again : (set : SetName) (records : List (Record RData)) → forms_rrset set.rtype ≡ true
-    → filter (of_set set) (filter (is_record_of set) records) ≡ filter (of_set set) records
+    → members set_of_record set (filter (is_record_of set) records) ≡ members set_of_record set records
 again set [] forms = refl
 again set (rr ∷ records) forms = at (of_set set rr) refl (again set records forms)
   where
     at : (b : Bool) → of_set set rr ≡ b
-        → filter (of_set set) (filter (is_record_of set) records) ≡ filter (of_set set) records
-        → filter (of_set set) (filter (is_record_of set) (rr ∷ records)) ≡ filter (of_set set) (rr ∷ records)
+        → members set_of_record set (filter (is_record_of set) records) ≡ members set_of_record set records
+        → members set_of_record set (filter (is_record_of set) (rr ∷ records)) ≡ members set_of_record set (rr ∷ records)
     at true is later =
         rw (held_for set rr forms, is, is) (ap (λ (rrs : List (Record RData)). rr ∷ rrs) later)
     at false is later = rw (held_for set rr forms, is) later
@@ -74,9 +62,9 @@ one_more first others = first >>= λ y. others >>= λ ys. Ok (y ∷ ys)
 
 -- what each record of the set gives, by the values of its fields
 each_by_fields : (set : SetName) (records : List (Record RData)) → AllByRecursion IsReadRecord records
-    → canonical_each (filter (of_set set) records)
+    → canonical_each (members set_of_record set records)
     ≡ for_each (λ rr. canon rdata_table rr.rtype rr.rdata)
-    (filter (λ rr. same_set (set_of rr) set) (map record_view records))
+    (members set_of set (map record_view records))
 each_by_fields set [] read = refl
 each_by_fields set (rr ∷ records) read = at (of_set set rr) refl (each_by_fields set records read.1)
   where
@@ -84,25 +72,22 @@ each_by_fields set (rr ∷ records) read = at (of_set set rr) refl (each_by_fiel
     view = record_view rr
 
     left : List (Record RData) → Each
-    left rrs = canonical_each (filter (of_set set) rrs)
+    left rrs = canonical_each (members set_of_record set rrs)
 
     right : List ResourceRecord → Each
-    right rrs = for_each (λ rr. canon rdata_table rr.rtype rr.rdata) (filter (λ rr. same_set (set_of rr) set) rrs)
-
-    tested : same_set (set_of view) set ≡ of_set set rr
-    tested = turned (same rr.name set.name) (eqb rr.dns_class set.dns_class) (eqb (rdata_type rr.rdata) set.rtype)
+    right rrs = for_each (λ rr. canon rdata_table rr.rtype rr.rdata) (members set_of set rrs)
 
     at : (b : Bool) → of_set set rr ≡ b → left records ≡ right (map record_view records)
         → left (rr ∷ records) ≡ right (map record_view (rr ∷ records))
     at true is later =
-        rw (is, tested ∙ is) (ap (λ (c : Result (List ℕ) EmitError). one_more c (left records))
+        rw is (ap (λ (c : Result (List ℕ) EmitError). one_more c (left records))
         (canonical_by_fields rr read.0.by_number.by_number)
         ∙ ap (one_more (canon rdata_table view.rtype view.rdata)) later)
-    at false is later = rw (is, tested ∙ is) later
+    at false is later = rw is later
 
 pub held_data : (set : SetName) (records : List (Record RData)) → AllByRecursion IsReadRecord records
     → forms_rrset set.rtype ≡ true
-    → set_data set.name set.dns_class set.rtype (filter (is_record_of set) records)
+    → set_data set (filter (is_record_of set) records)
     ≡ set_octets set (map record_view records)
 held_data set records read forms =
     ap (λ (each : Each). each >>= λ cs. Ok (ascending cs))

@@ -8,11 +8,11 @@ use Rattle.std.specs.Global.{Vec}
 use Rattle.dns_names.specs.Names.{name_cmp, same}
 use Rattle.sec_codes.specs.Algorithms.{number}
 use Rattle.sec_keydata.specs.declared.key_data_error.KeyDataError.{KeyDataError}
-use Rattle.sec_keydata.specs.KeyTags.{dnskey_tag}
+use Rattle.sec_keydata.specs.KeyTags.{dnskey_tag, is_tag}
 use Rattle.sec_anchor.specs.Entries.{EntryData}
 use Rattle.sec_sign.specs.declared.pair.PairVerdict.{PairVerdict}
 use Rattle.sec_sign.specs.declared.pair.PairVerdict.TheVariants.{NotMet}
-use Rattle.sec_sign.specs.Pairs.{SignatureRecord, is_tag}
+use Rattle.sec_sign.specs.Pairs.{SignatureRecord}
 use Rattle.sec_check.specs.declared.key_lookup.KeyLookup.{KeyLookup}
 use Rattle.sec_check.specs.Marks.{strongest}
 
@@ -74,6 +74,11 @@ is_named name entry =
 -- an index has under each name the positions of the entries whose keys have it, in order
 pub record IsIndex (index : BTreeMap KeyLookup (Vec ℕ)) (entries : List EntryData) : Type 0 where
   pub all : (q : KeyLookup) → values_at key_name_cmp index q ≡ positions_from 0 (is_named q) entries
+
+-- what a contract sees of trusted entries that are held
+pub record TrustedData : Type 0 where
+  pub entries : List EntryData
+  pub is_indexed : Bool
 
 -- ---- verdicts by positions
 

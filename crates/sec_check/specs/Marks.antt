@@ -1,18 +1,18 @@
 -- How far a record set of an answer is proved authentic, by the signatures in its section and by trusted keys
 -- (RFC 4035 5.3).
-use Rattle.std.specs.Prelude.{Bool, true, false, ℕ, nat_eq, if◌then◌else◌, List, [], ◌∷◌, map, None}
+use Rattle.std.specs.Prelude.{Bool, true, false, ℕ, if◌then◌else◌, List, [], ◌∷◌, map}
 use Rattle.std.specs.Prelude.{Result}
 use Rattle.std.specs.List.{list_any}
 use Rattle.dns_wire.specs.declared.error.EmitError.{EmitError}
-use Rattle.dns_types.specs.TypeNumbers as types
 use Rattle.dns_grammar.specs.Messages.{ResourceRecord}
 use Rattle.sec_codes.specs.declared.proof.Proof.{Proof}
 use Rattle.sec_codes.specs.declared.proof.Proof.TheVariants.{Indeterminate, Bogus, Secure}
 use Rattle.sec_anchor.specs.Entries.{EntryData}
 use Rattle.sec_sign.specs.declared.pair.PairVerdict.{PairVerdict}
 use Rattle.sec_sign.specs.declared.pair.PairVerdict.TheVariants.{NotMet, NotAccepted, Authentic}
-use Rattle.sec_sign.specs.MessageSets.{rrsig_from_values, set_octets}
-use Rattle.sec_sign.specs.Pairs.{SetName, SignatureRecord, ZoneKey, record_verdict}
+use Rattle.sec_sign.specs.MessageSignatures.{rrsig_in}
+use Rattle.sec_sign.specs.Sets.{SetName, set_octets}
+use Rattle.sec_sign.specs.Pairs.{SignatureRecord, ZoneKey, record_verdict}
 use Rattle.sec_sign.specs.Verifying.{Relation}
 
 -- ---- signatures, keys, sets
@@ -22,7 +22,7 @@ abbrev pub signature_of_record : ResourceRecord → SignatureRecord
 signature_of_record rr = record {
   owner = rr.name;
   dns_class = rr.dns_class;
-  rrsig = if nat_eq rr.rtype types.RRSIG then rrsig_from_values rr.rdata else None;
+  rrsig = rrsig_in rr;
 }
 
 -- an entry as a key of the zone that is its owner

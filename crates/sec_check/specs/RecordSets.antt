@@ -3,8 +3,7 @@ use Rattle.std.specs.Prelude.{Bool, ℕ, nat_eq, not, ◌&&◌, cond, List, [], 
 use Rattle.std.specs.List.{filter, list_any}
 use Rattle.dns_types.specs.TypeNumbers as types
 use Rattle.dns_grammar.specs.Messages.{ResourceRecord}
-use Rattle.sec_sign.specs.MessageSets.{same_set, set_of}
-use Rattle.sec_sign.specs.Pairs.{SetName}
+use Rattle.sec_sign.specs.Sets.{SetName, same_set, set_of}
 
 -- whether records of a type form sets here: all but signatures (RFC 2931, RFC 4034 3, RFC 8945) and OPT (RFC 6891 6.1)
 abbrev pub forms_rrset : ℕ → Bool

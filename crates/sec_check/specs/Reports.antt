@@ -6,7 +6,7 @@ use Rattle.dns_grammar.specs.Messages.{Message, ResourceRecord, message_at}
 use Rattle.dns_message.specs.Parts.{Parts, parts_of}
 use Rattle.dns_rdata.specs.RDataTable.{rdata_table}
 use Rattle.sec_anchor.specs.Entries.{EntryData}
-use Rattle.sec_sign.specs.Pairs.{SetName}
+use Rattle.sec_sign.specs.Sets.{SetName}
 use Rattle.sec_sign.specs.Verifying.{Relation}
 use Rattle.sec_tsig.specs.declared.verify_error.VerifyError.{VerifyError}
 use Rattle.sec_tsig.specs.declared.verify_error.VerifyError.TheVariants as causes
@@ -62,14 +62,27 @@ abbrev pub report_read : Trust → Bool → Result (Message × ℕ) DecodeError 
 report_read trust first (Ok read) = report_of trust first read.0
 report_read trust first (Err _) = record { sets = []; tsig_error = 0; server_time = None }
 
--- What an answer comes to for a chain: the report and the chain behind it, or the cause for which it is refused, as the
--- verdict says.
-abbrev pub Answered : Type 0
-Answered = Result (ReportData × TsigChain) VerifyError
+-- an answer that is accepted: its report, and the chain with which the answers after it are checked
+pub record Accepted : Type 0 where
+  pub report : ReportData
+  pub next : TsigChain
 
+-- what an answer comes to: it is accepted, or refused for a cause
+abbrev pub Answered : Type 0
+Answered = Result Accepted VerifyError
+
+-- What octets come to for a chain, as the verdict on them says (RFC 8945 5.2 to 5.4).
 abbrev pub answered : Trust → TsigChain → List ℕ → Answered
 answered trust chain octets =
-    verdict chain octets >>= λ next. Ok (report_read trust chain.first (message_at rdata_table octets), next)
+    verdict chain octets
+    >>= λ next. Ok record { report = report_read trust chain.first (message_at rdata_table octets); next = next }
+
+-- The report of an answer that is accepted is that of a message, which stands in its octets.
+abbrev pub ReportsAreOfMessages : Type 0
+ReportsAreOfMessages = (trust : Trust) (chain : TsigChain) (octets : List ℕ) (found : Accepted)
+    → answered trust chain octets ≡ Ok found
+    → (message : Message) × (e : ℕ) × (message_at rdata_table octets ≡ Ok (message, e))
+    × (found.report ≡ report_of trust chain.first message)
 
 -- ---- the checker
 
@@ -82,10 +95,10 @@ pub record CheckerData : Type 0 where
 abbrev pub trust_of : CheckerData → Relation → ℕ → Trust
 trust_of checker accepts moment = record { accepts = accepts; moment = moment; entries = checker.entries }
 
--- The call answered what the answer comes to: a report, behind which the chain moved; or its cause, or want of memory,
--- which left the checker as it was. The entries stay.
+-- The call answered what the answer comes to: a report, and the chain moved; or its cause, or out of memory, and the
+-- checker stayed as it was. The entries stay.
 abbrev pub AnswersAs : {X : Type 0} → (X → ReportData) → Result X VerifyError → CheckerData → CheckerData → Answered
     → Type 0
 AnswersAs view (Ok report) old new given =
-    (given ≡ Ok (view report, new.chain)) × (new.entries ≡ old.entries)
+    (given ≡ Ok record { report = view report; next = new.chain }) × (new.entries ≡ old.entries)
 AnswersAs view (Err cause) old new given = ((cause ≡ causes.OutOfMemory) ⊎ (given ≡ Err cause)) × (new ≡ old)

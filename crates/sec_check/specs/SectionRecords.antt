@@ -9,8 +9,8 @@ use Rattle.sec_sigdata.specs.Signatures.{SigData}
 use Rattle.dns_rdata.specs.declared.rdata.RData.{RData}
 use Rattle.dns_message.specs.declared.record.Record.{Record}
 use Rattle.dns_message.specs.Parts.{record_view}
-use Rattle.sec_sign.specs.MessageSets.{same_set, set_of}
-use Rattle.sec_sign.specs.Pairs.{SetName, SignatureRecord, signature_record}
+use Rattle.sec_sign.specs.Sets.{SetName, same_set, set_of}
+use Rattle.sec_sign.specs.Pairs.{SignatureRecord, signature_record}
 use Rattle.sec_check.specs.declared.rrset_key.RrsetKey.{RrsetKey}
 use Rattle.sec_check.specs.RecordSets.{forms_rrset, record_sets}
 

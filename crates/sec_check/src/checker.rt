@@ -1,7 +1,14 @@
 //! Checking the answers to a signed request, and the record sets in them.
 
+ghost use Rattle.std.specs.Prelude.{◌≡◌, Bool, ℕ, Ok, IfOk, IsOk};
+ghost use Rattle.dns_grammar.specs.Messages.{Message as message_of_octets, message_at};
+ghost use Rattle.dns_rdata.specs.RDataTable.{rdata_table};
+ghost use Rattle.sec_tsig.specs.Notices.{step_notice, notice_by};
+ghost use Rattle.sec_check.specs.Reports.{report_of};
+
 use crate::report::Report;
 use crate::reporting::set_proofs;
+use crate::trusted_entries::TrustedEntries;
 use crate::trusted_keys::TrustedKeys;
 use dns_wire::OutOfMemory;
 use sec_anchor::Entry;
@@ -16,7 +23,7 @@ use std::marker::Model;
 pub struct Checker {
     alloc: Global,
     verifier: TSigVerifier,
-    keys: TrustedKeys,
+    trusted: TrustedEntries,
 }
 
 impl Model for Checker {
@@ -24,16 +31,31 @@ impl Model for Checker {
 
     ghost Value = { CheckerData };
 
-    ghost view = { λ s. record { chain = s.verifier; entries = s.keys } };
+    ghost view = { λ s. record { chain = s.verifier; entries = s.trusted.entries } };
+}
+
+/// The report of the message that stands in octets, by the step which the verdict on them gave.
+fn report<S: SignatureScheme>(
+    alloc: Global,
+    scheme: &S,
+    moment: u32,
+    keys: &TrustedKeys<'_>,
+    octets: &[u8],
+    step: &TsigStep,
+) -> Result<Report, OutOfMemory>
+    requires { IsOk (message_at rdata_table octets.now) }
+    ensures { IfOk result (λ report. (first : Bool) (message : message_of_octets) (e : ℕ)
+        → message_at rdata_table octets.now ≡ Ok (message, e) → step_notice step.now ≡ notice_by first message
+        → report ≡ report_of record { accepts = S.accepts scheme.now; moment = moment; entries = keys.now } first message) }
+{
+    let sets = set_proofs(alloc, scheme, moment, keys, octets)?;
+    Ok(Report::new(sets, step.tsig_error(), step.server_time()))
 }
 
 impl Checker {
-    ghost use Rattle.std.specs.Prelude.{◌≡◌, ℕ, Ok, map, IfOk};
-    ghost use Rattle.dns_grammar.specs.Messages.{Message as message_of_octets, message_at};
-    ghost use Rattle.dns_rdata.specs.RDataTable.{rdata_table};
+    ghost use Rattle.std.specs.Prelude.{map};
     ghost use Rattle.sec_anchor.specs.Entries.{entry_data};
-    ghost use Rattle.sec_tsig.specs.Notices.{step_notice, notice_by};
-    ghost use Rattle.sec_check.specs.Reports.{AnswersAs, answered, report_of, trust_of};
+    ghost use Rattle.sec_check.specs.Reports.{AnswersAs, answered, trust_of};
 
     /// A checker of the answers that the verifier is for, with these trusted entries. Entries that aren't well formed
     /// prove nothing.
@@ -43,25 +65,8 @@ impl Checker {
         Checker {
             alloc,
             verifier,
-            keys: TrustedKeys::new(alloc, entries),
+            trusted: TrustedEntries::new(entries),
         }
-    }
-
-    /// The report of octets, if they are the next answer, by whose step the chain is to move.
-    fn report<S: SignatureScheme>(
-        &self,
-        scheme: &S,
-        moment: u32,
-        octets: &[u8],
-        step: &TsigStep,
-    ) -> Result<Report, OutOfMemory>
-        ensures { IfOk result (λ report. (message : message_of_octets) (e : ℕ)
-            → message_at rdata_table octets.now ≡ Ok (message, e)
-            → step_notice step.now ≡ notice_by self.now.chain.first message
-            → report ≡ report_of (trust_of self.now (S.accepts scheme.now) moment) self.now.chain.first message) }
-    {
-        let sets = set_proofs(self.alloc, scheme, moment, &self.keys, octets)?;
-        Ok(Report::new(sets, step.tsig_error(), step.server_time()))
     }
 
     /// Checks the next answer (RFC 8945 5.2 to 5.4) at a moment, a time in seconds from the start of 1970, and reports
@@ -80,10 +85,11 @@ impl Checker {
             (answered (trust_of self.old (S.accepts scheme.now) moment) self.old.chain octets.now) }
     {
         let step = self.verifier.verdict(octets)?;
-        if self.keys.index(self.alloc).is_err() {
+        if self.trusted.index(self.alloc).is_err() {
             return Err(VerifyError::OutOfMemory);
         }
-        match self.report(scheme, moment, octets, &step) {
+        let keys = self.trusted.keys();
+        match report(self.alloc, scheme, moment, &keys, octets, &step) {
             Ok(report) => {
                 self.verifier.advance(step);
                 Ok(report)

@@ -12,6 +12,7 @@ mod rrset_key;
 mod section_records;
 mod set_list;
 mod set_proof;
+mod trusted_entries;
 mod trusted_keys;
 
 pub use checker::Checker;

@@ -1,7 +1,7 @@
 //! How far a record set is proved authentic (RFC 4035 5.3).
 ghost use Rattle.std.specs.Prelude.{◌≡◌, map, IfOk};
 ghost use Rattle.sec_sign.specs.Pairs.{signature_record};
-ghost use Rattle.sec_sign.specs.Signed.{set_data};
+ghost use Rattle.sec_sign.specs.Sets.{set_data};
 ghost use Rattle.sec_check.specs.Marks.{mark_by, strongest_pair};
 ghost use Rattle.sec_check.specs.SectionRecords.{name_of};
 
@@ -33,7 +33,7 @@ fn try_signatures<S: SignatureScheme>(
     alloc: Global,
     scheme: &S,
     moment: u32,
-    keys: &TrustedKeys,
+    keys: &TrustedKeys<'_>,
     set: &RrsetKey,
     octets: &Result<CanonicalSet, EmitError>,
     signatures: &[Record<RData>],
@@ -62,14 +62,14 @@ pub(crate) fn mark<S: SignatureScheme>(
     alloc: Global,
     scheme: &S,
     moment: u32,
-    keys: &TrustedKeys,
+    keys: &TrustedKeys<'_>,
     set: &RrsetKey,
     records: &[Record<RData>],
     signatures: &[Record<RData>],
 ) -> Result<Proof, OutOfMemory>
     ensures { IfOk result (λ proof. proof
         ≡ mark_by (strongest_pair record { accepts = S.accepts scheme.now; moment = moment; entries = keys.now }
-        (name_of set.now) (set_data set.now.owner set.now.dns_class set.now.rtype records.now)
+        (name_of set.now) (set_data (name_of set.now) records.now)
         (map signature_record signatures.now))) }
 {
     if signatures.is_empty() {

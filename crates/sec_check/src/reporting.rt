@@ -1,5 +1,5 @@
 //! Making the report of an answer.
-ghost use Rattle.std.specs.Prelude.{◌≡◌, ◌++◌, true, map, List, ℕ, IfOk, Ok};
+ghost use Rattle.std.specs.Prelude.{◌≡◌, ◌++◌, true, map, List, ℕ, IfOk, IsOk, Ok};
 ghost use Rattle.std.specs.List.{AllByRecursion};
 ghost use Rattle.dns_grammar.specs.Messages.{Message as message_of_octets, message_at};
 ghost use Rattle.dns_rdata.specs.RDataTable.{rdata_table};
@@ -20,7 +20,7 @@ use crate::trusted_keys::TrustedKeys;
 use dns_message::{Message, Record, Section};
 use dns_rdata::RData;
 use dns_types::{DNSClass, RecordType};
-use dns_wire::OutOfMemory;
+use dns_wire::{DecodeError, OutOfMemory};
 use sec_codes::SignatureScheme;
 use std::alloc::Global;
 
@@ -29,7 +29,7 @@ fn proof_of<S: SignatureScheme>(
     alloc: Global,
     scheme: &S,
     moment: u32,
-    keys: &TrustedKeys,
+    keys: &TrustedKeys<'_>,
     section: Section,
     held: &SectionRecords,
     set: &RrsetKey,
@@ -56,7 +56,7 @@ fn push_proofs<S: SignatureScheme>(
     alloc: Global,
     scheme: &S,
     moment: u32,
-    keys: &TrustedKeys,
+    keys: &TrustedKeys<'_>,
     section: Section,
     held: &SectionRecords,
     mut proofs: Vec<SetProof>,
@@ -79,7 +79,7 @@ fn add_section<S: SignatureScheme>(
     alloc: Global,
     scheme: &S,
     moment: u32,
-    keys: &TrustedKeys,
+    keys: &TrustedKeys<'_>,
     section: Section,
     records: Vec<Record<RData>>,
     proofs: Vec<SetProof>,
@@ -99,7 +99,7 @@ fn sets_of_message<S: SignatureScheme>(
     alloc: Global,
     scheme: &S,
     moment: u32,
-    keys: &TrustedKeys,
+    keys: &TrustedKeys<'_>,
     message: Message,
 ) -> Result<Vec<SetProof>, OutOfMemory>
     requires { IsReadMessage message }
@@ -143,15 +143,16 @@ fn sets_of_message<S: SignatureScheme>(
     )
 }
 
-/// The sets of the sections of the message that stands in octets, with their marks. Where none stands there, this is
-/// answered as want of memory.
+/// The sets of the sections of the message that stands in octets, with their marks.
+#[tactic(auto, using(crate::proofs::Reported::read_refuses_nothing))]
 pub(crate) fn set_proofs<S: SignatureScheme>(
     alloc: Global,
     scheme: &S,
     moment: u32,
-    keys: &TrustedKeys,
+    keys: &TrustedKeys<'_>,
     octets: &[u8],
 ) -> Result<Vec<SetProof>, OutOfMemory>
+    requires { IsOk (message_at rdata_table octets.now) }
     ensures { IfOk result (λ proofs. (message : message_of_octets) (e : ℕ)
         → message_at rdata_table octets.now ≡ Ok (message, e)
         → proofs.items ≡ set_proofs record { accepts = S.accepts scheme.now; moment = moment; entries = keys.now }
@@ -159,6 +160,7 @@ pub(crate) fn set_proofs<S: SignatureScheme>(
 {
     match Message::from_vec(alloc, octets) {
         Ok(message) => sets_of_message(alloc, scheme, moment, keys, message),
-        Err(_) => Err(OutOfMemory),
+        Err(DecodeError::OutOfMemory) => Err(OutOfMemory),
+        Err(_) => unreachable!(),
     }
 }

@@ -2,7 +2,7 @@
 ghost use Rattle.std.specs.Prelude.{◌≡◌};
 ghost use Rattle.std.specs.Option.{option_map};
 ghost use Rattle.dns_message.specs.Parts.{record_view};
-ghost use Rattle.sec_sign.specs.MessageSets.{set_of};
+ghost use Rattle.sec_sign.specs.Sets.{set_of};
 ghost use Rattle.sec_sign.specs.Pairs.{signature_record};
 ghost use Rattle.sec_check.specs.RecordSets.{forms_rrset};
 ghost use Rattle.sec_check.specs.SectionRecords.{covered_set, name_of};

@@ -15,7 +15,7 @@ pub(crate) struct SetList {
 
 impl Model for SetList {
     ghost use Rattle.std.specs.Prelude.{List, map};
-    ghost use Rattle.sec_sign.specs.Pairs.{SetName};
+    ghost use Rattle.sec_sign.specs.Sets.{SetName};
     ghost use Rattle.sec_check.specs.SectionRecords.{Knows, name_of};
 
     ghost Value = { List SetName };
@@ -27,7 +27,7 @@ impl Model for SetList {
 
 impl SetList {
     ghost use Rattle.std.specs.Prelude.{◌≡◌, [], map, IfOk};
-    ghost use Rattle.sec_sign.specs.MessageSets.{same_set};
+    ghost use Rattle.sec_sign.specs.Sets.{same_set};
     ghost use Rattle.sec_check.specs.RecordSets.{with_new};
     ghost use Rattle.sec_check.specs.SectionRecords.{name_of};
 

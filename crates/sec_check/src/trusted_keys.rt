@@ -2,7 +2,7 @@
 ghost use Rattle.std.specs.Prelude.{◌≡◌, IfOk, map, slice_get};
 ghost use Rattle.sec_anchor.specs.Entries.{entry_data};
 ghost use Rattle.sec_sign.specs.Pairs.{record_verdict, signature_record};
-ghost use Rattle.sec_check.specs.Indexes.{IsIndex, strongest_at, verdict_at};
+ghost use Rattle.sec_check.specs.Indexes.{strongest_at, verdict_at};
 ghost use Rattle.sec_check.specs.Marks.{stronger, strongest, zone_key};
 
 use crate::key_lookup::KeyLookup;
@@ -14,22 +14,9 @@ use dns_types::{DNSClass, RecordType};
 use dns_wire::{EmitError, OutOfMemory};
 use sec_anchor::Entry;
 use sec_codes::SignatureScheme;
-use sec_sign::{CanonicalSet, PairVerdict, authenticates_set};
+use sec_sign::{CanonicalSet, PairVerdict, RrsetName, ZoneKey, authenticates_set};
 use std::alloc::Global;
 use std::marker::Model;
-
-/// The positions of the entries by the names of their keys.
-fn index_of(alloc: Global, entries: &[Entry]) -> Result<Multimap<KeyLookup, usize>, OutOfMemory>
-    ensures { IfOk result (λ index. IsIndex index.by_key (map entry_data entries.now)) }
-{
-    let mut index = Multimap::new(alloc);
-    for (position, entry) in entries.iter().enumerate() {
-        if let Some(name) = KeyLookup::of_entry(entry) {
-            index.put(alloc, name, position)?;
-        }
-    }
-    Ok(index)
-}
 
 /// The stronger of two verdicts.
 pub(crate) fn stronger(first: PairVerdict, second: PairVerdict) -> PairVerdict
@@ -64,19 +51,17 @@ fn verdict_at<S: SignatureScheme>(
     let Some(Entry::DNSKEY(record)) = entries.get(position) else {
         return Ok(PairVerdict::NotMet);
     };
-    authenticates_set(
-        alloc,
-        scheme,
-        moment,
+    let named = RrsetName {
         name,
         dns_class,
         rtype,
-        rr,
-        record.name(),
-        record.dns_class(),
-        record.data(),
-        set,
-    )
+    };
+    let key = ZoneKey {
+        owner: record.name(),
+        dns_class: record.dns_class(),
+        dnskey: record.data(),
+    };
+    authenticates_set(alloc, scheme, moment, &named, rr, &key, set)
 }
 
 /// The strongest verdict on a record and the entries at these positions.
@@ -111,56 +96,41 @@ fn strongest_at<S: SignatureScheme>(
     Ok(found)
 }
 
-/// Trusted entries, and where there was memory for it an index of them by what a signature names of its key. A contract
-/// sees the list of the entries.
+/// Trusted entries, and an index of them by what a signature names of its key. A contract sees the list of the entries.
 #[derive(Drop)]
-pub(crate) struct TrustedKeys {
-    entries: Vec<Entry>,
-    by_name: Option<Multimap<KeyLookup, usize>>,
+pub(crate) struct TrustedKeys<'a> {
+    entries: &'a [Entry],
+    by_name: &'a Multimap<KeyLookup, usize>,
 }
 
-impl Model for TrustedKeys {
-    ghost use Rattle.std.specs.Prelude.{List, MatchOption, map};
+impl<'a> Model for TrustedKeys<'a> {
+    ghost use Rattle.std.specs.Prelude.{List, map};
     ghost use Rattle.sec_anchor.specs.Entries.{EntryData, entry_data};
     ghost use Rattle.sec_check.specs.Indexes.{IsIndex};
 
     ghost Value = { List EntryData };
 
-    ghost view = { λ t. map entry_data t.entries.items };
+    ghost view = { λ t. map entry_data t.entries.now };
 
-    ghost invariant = { λ t. MatchOption t.by_name (Unit {0})
-        (λ by_name. IsIndex by_name.by_key (map entry_data t.entries.items)) };
+    ghost invariant = { λ t. IsIndex t.by_name.now.by_key (map entry_data t.entries.now) };
 }
 
-impl TrustedKeys {
-    /// The entries, with an index where there is memory for it.
-    pub(crate) fn new(alloc: Global, entries: Vec<Entry>) -> TrustedKeys
-        ensures { result ≡ map entry_data entries.items }
+impl<'a> TrustedKeys<'a> {
+    ghost use Rattle.sec_check.specs.Indexes.{IsIndex};
+
+    /// These entries, with their index.
+    pub(crate) fn new(
+        entries: &'a [Entry],
+        by_name: &'a Multimap<KeyLookup, usize>,
+    ) -> TrustedKeys<'a>
+        requires { IsIndex by_name.now.by_key (map entry_data entries.now) }
+        ensures { result ≡ map entry_data entries.now }
     {
-        let by_name = index_of(alloc, &entries).ok();
         TrustedKeys { entries, by_name }
     }
 
-    /// Makes the index, if there is none.
-    ///
-    /// # Errors
-    ///
-    /// Out of memory.
-    pub(crate) fn index(&mut self, alloc: Global) -> Result<(), OutOfMemory>
-        ensures { self.new ≡ self.old }
-    {
-        if self.by_name.is_none() {
-            self.by_name = Some(index_of(alloc, &self.entries)?);
-        }
-        Ok(())
-    }
-
     /// The strongest verdict on a record and any of the entries, for the set with this name, class and type and with
-    /// these data. The entries are found by the index, which has to be there.
-    ///
-    /// # Errors
-    ///
-    /// Out of memory, also where there is no index.
+    /// these data. The entries are found by the index.
     pub(crate) fn verdict_on<S: SignatureScheme>(
         &self,
         alloc: Global,
@@ -177,9 +147,6 @@ impl TrustedKeys {
             record { name = name.now; dns_class = dns_class; rtype = rtype } (zone_key entry) set.now
             (signature_record rr.now)) self.now)) }
     {
-        let Some(by_name) = &self.by_name else {
-            return Err(OutOfMemory);
-        };
         let Some(key_lookup) = KeyLookup::in_rrsig(rr) else {
             return Ok(PairVerdict::NotMet);
         };
@@ -192,8 +159,8 @@ impl TrustedKeys {
             rtype,
             rr,
             set,
-            &self.entries,
-            by_name.get(&key_lookup),
+            self.entries,
+            self.by_name.get(&key_lookup),
         )
     }
 }

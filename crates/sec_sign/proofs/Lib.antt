@@ -7,3 +7,4 @@ pub mod SigningLaws
 pub mod Codes
 pub mod OneReading
 pub mod PairVerdicts
+pub mod SignedWriting

@@ -1,7 +1,7 @@
 -- The octets that are signed tell what they are of.
 use Rattle.std.proofs.Common.{◌≡◌, ℕ, ◌<◌, ◌^◌, Bool, true, false, cond, ltb, List, [], ◌∷◌, ◌++◌}
 use Rattle.std.proofs.Common.{length, refl, sym, ap, ◌∙◌, subst, inl, inr, ◌⊎◌, Result, Ok, Err, arith, length-append}
-use Rattle.std.proofs.Common.{append_assoc}
+use Rattle.std.proofs.Common.{append_assoc, append-nil, None}
 use Rattle.std.specs.Int.{w8, w16, w32, to_be_bytes}
 use Rattle.std.specs.List.{AllByRecursion, flat_map}
 use Rattle.std.proofs.lemmas.List.Concat.{flat_map-cons}
@@ -9,6 +9,7 @@ use Rattle.dns_wire.specs.declared.error.EmitError.{EmitError}
 use Rattle.dns_wire.specs.declared.error.EmitError.TheVariants.{DataTooLong}
 use Rattle.dns_wire.specs.Reading.{◌>>=◌}
 use Rattle.dns_names.specs.Names.{IsName, Same, low, wire}
+use Rattle.dns_grammar.specs.Messages.{ResourceRecord}
 use Rattle.dns_grammar.specs.RecordData.{rdata_octets, fitting}
 use Rattle.sec_codes.specs.Algorithms.{number}
 use Rattle.sec_sigdata.specs.declared.sig_input.SigInput.{SigInput}
@@ -18,8 +19,9 @@ use Rattle.dns_rdata.specs.RData.{rdata_row, rdata_values}
 use Rattle.dns_message.specs.declared.record.Record.{Record}
 use Rattle.sec_sign.specs.Ascending.{ascending}
 use Rattle.sec_sign.specs.declared.tbs_error.TbsError.{TbsError}
-use Rattle.sec_sign.specs.Signed.{canonical, canonical_each, chosen, header_octets, record_front, record_octets}
-use Rattle.sec_sign.specs.Signed.{records_octets, set_data, signed_owner, signed, signed_octets}
+use Rattle.sec_sign.specs.Sets.{canonical, canonical_each, members, set_data, set_of_record}
+use Rattle.sec_sign.specs.Signed.{header_octets, record_octets, records_octets, set_covered, signed, signed_head, signed_octets}
+use Rattle.sec_sign.specs.Signed.{signed_owner}
 use Rattle.sec_sign.specs.OneReading.{OneReading, SameHeader}
 use Rattle.sec_sign.proofs.Ascending.{each-ascending, some-ascending, none-ascending}
 use Rattle.sec_sign.proofs.Owners.{shown_name}
@@ -37,7 +39,7 @@ header_of t a labels ttl e i tag z =
 header_is : (h : SigInput) → header_octets h ≡ header_of h.type_covered (number h.algorithm) h.num_labels
     h.original_ttl h.sig_expiration.0 h.sig_inception.0 h.key_tag (low h.signer_name)
 unfolding header_octets header_of
-header_is h = refl
+header_is h = simp (append_assoc, append-nil) refl
 
 -- equal strings begin with headers that agree
 pub record Headers (h g : SigInput) (s t : List ℕ) : Type 0 where
@@ -82,18 +84,29 @@ one_header h g same = header_is h ∙ (λ i. header_of (same.type_covered i) (sa
 
 -- ---- the records
 
+-- what comes before the data of the records of a set
+abbrev head_of_set : List (List ℕ) → ℕ → ℕ → ℕ → ResourceRecord
+head_of_set owner t k ttl =
+    record { start = 0; name = low owner; rtype = t; dns_class = k; ttl = ttl; rdata = None }
+
 -- the data of records are shorter than their length can tell
 abbrev pub AreShort : List (List ℕ) → Type 0
 AreShort = AllByRecursion (λ c. length c < 2 ^ 16)
 
+-- a record has octets
+some_octets : (owner : List (List ℕ)) (t k ttl : ℕ) (c s : List ℕ)
+    → 0 < length (record_octets (head_of_set owner t k ttl) c ++ s)
+unfolding record_octets
+some_octets owner t k ttl c s = simp length-append (omega arith)
+
 module _ (owner other : List (List ℕ)) (t u k l ttl life : ℕ) (is : IsName owner) (is_other : IsName other)
     (t_fits : t < 2 ^ 16) (u_fits : u < 2 ^ 16) (k_fits : k < 2 ^ 16) (l_fits : l < 2 ^ 16) (ttl_fits : ttl < 2 ^ 32)
     (life_fits : life < 2 ^ 32) where
-  pub front : List ℕ
-  front = record_front owner t k ttl
+  abbrev pub front : ResourceRecord
+  front = head_of_set owner t k ttl
 
-  pub other_front : List ℕ
-  other_front = record_front other u l life
+  abbrev pub other_front : ResourceRecord
+  other_front = head_of_set other u l life
 
   -- equal strings begin with records that agree
   pub record OneRecord (c d s v : List ℕ) : Type 0 where
@@ -104,7 +117,7 @@ module _ (owner other : List (List ℕ)) (t u k l ttl life : ℕ) (is : IsName o
 
   one_record : (c d s v : List ℕ) → length c < 2 ^ 16 → length d < 2 ^ 16
       → record_octets front c ++ s ≡ record_octets other_front d ++ v → OneRecord c d s v
-  unfolding record_octets record_front front other_front
+  unfolding record_octets
   one_record c d s v short brief same =
       let flat : wire (low owner) ++ (to_be_bytes w16 t ++ (to_be_bytes w16 k ++ (to_be_bytes w32 ttl
       ++ (to_be_bytes w16 (length c) ++ (c ++ s))))) ≡ wire (low other) ++ (to_be_bytes w16 u ++ (to_be_bytes w16 l
@@ -118,22 +131,10 @@ module _ (owner other : List (List ℕ)) (t u k l ttl life : ℕ) (is : IsName o
       record { same_owner = n.first; same_class = class.first; rdata = octets.first; behind = octets.behind }
 
   record_some : (c s : List ℕ) → 0 < length (record_octets other_front c ++ s)
-  unfolding record_octets
-  record_some c s = omega (
-    arith,
-    length-append (other_front ++ to_be_bytes w16 (length c) ++ c) s,
-    length-append (other_front ++ to_be_bytes w16 (length c)) c,
-    length-append other_front (to_be_bytes w16 (length c)),
-  )
+  record_some c s = omega (arith, some_octets other u l life c s)
 
   front_some : (c s : List ℕ) → 0 < length (record_octets front c ++ s)
-  unfolding record_octets
-  front_some c s = omega (
-    arith,
-    length-append (front ++ to_be_bytes w16 (length c) ++ c) s,
-    length-append (front ++ to_be_bytes w16 (length c)) c,
-    length-append front (to_be_bytes w16 (length c)),
-  )
+  front_some c s = omega (arith, some_octets owner t k ttl c s)
 
   -- the same data; and where there are some, the same owner and class
   pub record SameRecords (cs ds : List (List ℕ)) : Type 0 where
@@ -235,11 +236,11 @@ ok_octets : (x y : List ℕ) → ◌≡◌ {A = Result (List ℕ) TbsError} (Ok 
 ok_octets x y same = cc
 
 whole : (h : SigInput) (n owner : List (List ℕ)) (k : ℕ) (records : List (Record RData)) (cs : List (List ℕ))
-    (x : List ℕ) → signed_owner n h.num_labels ≡ Ok owner → set_data n k h.type_covered records ≡ Ok cs
-    → signed h n k records ≡ Ok x → header_octets h ++ records_octets owner k h cs ≡ x
+    (x : List ℕ) → signed_owner n h.num_labels ≡ Ok owner → set_data (set_covered n k h) records ≡ Ok cs
+    → signed h n k records ≡ Ok x → header_octets h ++ records_octets (signed_head owner k h) cs ≡ x
 unfolding signed_octets
 whole h n owner k records cs x shown_is set_is is =
-    let made : signed h n k records ≡ Ok (header_octets h ++ records_octets owner k h cs) = rw (shown_is, set_is) refl in
+    let made : signed h n k records ≡ Ok (header_octets h ++ records_octets (signed_head owner k h) cs) = rw (shown_is, set_is) refl in
     ok_octets _ x (sym made ∙ is)
 
 -- the data, and the owner and the class unless no record was chosen, agree
@@ -251,9 +252,9 @@ SameSet h g owner other k l records cs ds =
 module _ (h g : SigInput) (owner other : List (List ℕ)) (k l : ℕ) (cs ds : List (List ℕ)) where
   tells : (records : List (Record RData)) → InputFits h → InputFits g → IsName owner → IsName other → k < 2 ^ 16
       → l < 2 ^ 16 → SetOf records cs → AreShort ds
-      → header_octets h ++ records_octets owner k h cs ≡ header_octets g ++ records_octets other l g ds
+      → header_octets h ++ records_octets (signed_head owner k h) cs
+      ≡ header_octets g ++ records_octets (signed_head other l g) ds
       → SameSet h g owner other k l records cs ds
-  unfolding front other_front
   tells records fits other_fits is is_other k_fits l_fits of short same =
       let header = headers h g _ _ fits other_fits same in
       let sets = same_records owner other h.type_covered g.type_covered k l h.original_ttl g.original_ttl is is_other
@@ -267,30 +268,36 @@ module _ (h g : SigInput) (owner other : List (List ℕ)) (k l : ℕ) (cs ds : L
       unless (inr some) owners = inr (owners some)
 
   told : (records : List (Record RData)) → SetOf records cs → SameSet h g owner other k l records cs ds
-      → header_octets h ++ records_octets owner k h cs ≡ header_octets g ++ records_octets other l g ds
-  unfolding record_front
+      → header_octets h ++ records_octets (signed_head owner k h) cs
+      ≡ header_octets g ++ records_octets (signed_head other l g) ds
   told records of same = at same.2
     where
       at : (records ≡ []) ⊎ (Same owner other × (k ≡ l))
-          → header_octets h ++ records_octets owner k h cs ≡ header_octets g ++ records_octets other l g ds
+          → header_octets h ++ records_octets (signed_head owner k h) cs
+          ≡ header_octets g ++ records_octets (signed_head other l g) ds
       at (inl none) =
           let empty : cs ≡ [] = of.none none in
           let empty_too : ds ≡ [] = sym same.1 ∙ empty in
-          λ i. one_header h g same.0 i ++ (ap (records_octets owner k h) empty
-          ∙ sym (ap (records_octets other l g) empty_too)) i
-      at (inr owners) = λ i. one_header h g same.0 i ++ flat_map
-          (record_octets (wire (owners.0 i) ++ to_be_bytes w16 (same.0.type_covered i) ++ to_be_bytes w16 (owners.1 i)
-          ++ to_be_bytes w32 (same.0.original_ttl i))) (same.1 i)
+          λ i. one_header h g same.0 i ++ (ap (records_octets (signed_head owner k h)) empty
+          ∙ sym (ap (records_octets (signed_head other l g)) empty_too)) i
+      at (inr owners) = λ i. one_header h g same.0 i ++ records_octets record {
+        start = 0;
+        name = owners.0 i;
+        rtype = same.0.type_covered i;
+        dns_class = owners.1 i;
+        ttl = same.0.original_ttl i;
+        rdata = None;
+      } (same.1 i)
 
 pub one_reading : OneReading
 one_reading h g n z owner other k l records others cs ds x y fits other_fits name other_name k_fits l_fits shown_is
     shown_other set_is set_other is is_other =
     let left = whole h n owner k records cs x shown_is set_is is in
     let right = whole g z other l others ds y shown_other set_other is_other in
-    let of = set_of (chosen n k h.type_covered records) cs set_is in
-    let other_of = set_of (chosen z l g.type_covered others) ds set_other in (
-      λ same. tells h g owner other k l cs ds (chosen n k h.type_covered records) fits other_fits
+    let of = set_of (members set_of_record (set_covered n k h) records) cs set_is in
+    let other_of = set_of (members set_of_record (set_covered z l g) others) ds set_other in (
+      λ same. tells h g owner other k l cs ds (members set_of_record (set_covered n k h) records) fits other_fits
           (shown_name n h.num_labels owner name shown_is) (shown_name z g.num_labels other other_name shown_other) k_fits
           l_fits of other_of.short (left ∙ same ∙ sym right),
-      λ same. sym left ∙ told h g owner other k l cs ds (chosen n k h.type_covered records) of same ∙ right,
+      λ same. sym left ∙ told h g owner other k l cs ds (members set_of_record (set_covered n k h) records) of same ∙ right,
     )

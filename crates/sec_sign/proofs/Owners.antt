@@ -1,7 +1,8 @@
 -- The owner of a wildcard is a name.
 use Rattle.std.proofs.Common.{◌≡◌, ℕ, zero, suc, ◌-◌, ◌<◌, ◌≤◌, Bool, true, false, List, [], ◌∷◌, length, drop}
 use Rattle.std.proofs.Common.{refl, sym, subst, arith, length-append, cond}
-use Rattle.std.specs.Prelude.{codes, nat_eq, nat_lt, Result, Ok, Err}
+use Rattle.std.specs.Prelude.{codes, nat_eq, nat_lt, Some, None, Result, Ok}
+use Rattle.std.specs.Option.{ok_or}
 use Rattle.std.proofs.lemmas.Bool.Decides.{nat_tests}
 use Rattle.std.specs.List.{AllByRecursion}
 use Rattle.std.specs.Cmp.Lexicographic.{pointwise}
@@ -58,8 +59,9 @@ pub shown_name : (n : List (List ℕ)) (labels : ℕ) (owner : List (List ℕ)) 
 shown_name n labels owner name is = at (nat_lt (count n) labels) (nat_eq (count n) labels) refl refl is
   where
     at : (up equal : Bool) → nat_lt (count n) labels ≡ up → nat_eq (count n) labels ≡ equal
-        → ◌≡◌ {A = Result (List (List ℕ)) TbsError} (cond up (Err (LabelsExceedOwner labels (count n)))
-        (cond equal (Ok n) (Ok (codes "*" ∷ drop (length n - labels) n)))) (Ok owner) → IsName owner
+        → ◌≡◌ {A = Result (List (List ℕ)) TbsError} (ok_or (cond up None
+        (cond equal (Some n) (Some (codes "*" ∷ drop (length n - labels) n)))) (LabelsExceedOwner labels (count n)))
+        (Ok owner) → IsName owner
     at true equal e f h = absurd cc
     at false true e f h = let same : n ≡ owner = cc in subst IsName same name
     at false false e f h =

@@ -18,7 +18,8 @@ use Rattle.sec_sigdata.specs.Signatures.{SigData}
 use Rattle.sec_sign.specs.declared.sign_error.SignError.{SignError}
 use Rattle.sec_sign.specs.declared.tbs_error.TbsError.{TbsError}
 use Rattle.sec_sign.specs.Causes.{for_set}
-use Rattle.sec_sign.specs.Signed.{set_data, signed_owner, signed, signed_under}
+use Rattle.sec_sign.specs.Sets.{set_data}
+use Rattle.sec_sign.specs.Signed.{set_covered, signed_owner, signed, signed_under}
 use Rattle.sec_sign.specs.Signers.{SignerData}
 use Rattle.sec_sign.specs.Signing.{expiration_of, for_signature, serial_time, tag_to_sign, to_sign}
 use Rattle.sec_sign.specs.Verifying.{Relation, rrsig_verified}
@@ -31,10 +32,10 @@ shown_itself n labels same =
     rw (up, equal) refl
 
 under_own_name : (h : SigInput) (n : List (List ℕ)) (k : ℕ) (records : List (Record RData)) (octets : List ℕ)
-    → h.num_labels ≡ count n → for_signature (signed_under n h k (set_data n k h.type_covered records)) ≡ Ok octets
+    → h.num_labels ≡ count n → for_signature (signed_under n h k (set_data (set_covered n k h) records)) ≡ Ok octets
     → signed h n k records ≡ Ok octets
 under_own_name h n k records octets same is =
-    rw (shown_itself n h.num_labels same) (at (signed_under n h k (set_data n k h.type_covered records)) is)
+    rw (shown_itself n h.num_labels same) (at (signed_under n h k (set_data (set_covered n k h) records)) is)
   where
     at : (written : Result (List ℕ) EmitError) → for_signature written ≡ Ok octets → for_set written ≡ Ok octets
     at (Ok x) e = let same : x ≡ octets = cc in ap (λ (y : List ℕ). let ok : Result (List ℕ) TbsError = Ok y in ok) same
@@ -55,7 +56,7 @@ module _ (algorithm : Algorithm) (signer : SignerData) (set : Rrset) (k : ℕ) (
   }
 
   abbrev behind : SigInput → Result (SigInput × List ℕ) SignError
-  behind header = for_signature (signed_under set.name header k (set_data set.name k header.type_covered set.records)) >>= λ x. Ok (header, x)
+  behind header = for_signature (signed_under set.name header k (set_data (set_covered set.name k header) set.records)) >>= λ x. Ok (header, x)
 
   -- what there was to sign is the string of the header that was made
   pub string_to_sign : to_sign algorithm signer set k inception ≡ Ok (h, octets)
@@ -64,7 +65,7 @@ module _ (algorithm : Algorithm) (signer : SignerData) (set : Rrset) (k : ℕ) (
   string_to_sign is = at (expiration_of inception signer.sig_duration) (tag_to_sign (dnskey_tag signer.dnskey)) is
     where
       written : (made : SigInput) → made.num_labels ≡ count set.name → (x : Result (List ℕ) SignError)
-          → for_signature (signed_under set.name made k (set_data set.name k made.type_covered set.records)) ≡ x
+          → for_signature (signed_under set.name made k (set_data (set_covered set.name k made) set.records)) ≡ x
           → (x >>= λ y. let ok : Result (SigInput × List ℕ) SignError = Ok (made, y) in ok) ≡ Ok (h, octets)
           → signed h set.name k set.records ≡ Ok octets
       written made labels (Ok x) e is =

@@ -6,14 +6,15 @@ use Rattle.sec_codes.specs.declared.algorithm.Algorithm.{Algorithm}
 use Rattle.sec_sigdata.specs.declared.sig_input.SigInput.{SigInput}
 use Rattle.sec_sign.specs.declared.sign_error.SignError.{SignError}
 use Rattle.sec_sign.specs.declared.sign_error.SignError.TheVariants as causes
-use Rattle.sec_sign.specs.Signed.{set_data, signed_octets}
+use Rattle.sec_sign.specs.Sets.{set_data}
+use Rattle.sec_sign.specs.Signed.{set_covered, signed_octets}
 use Rattle.sec_sign.specs.Signers.{SignerData}
 use Rattle.sec_sign.specs.Signing.{expiration_of, header_of, to_sign, IsSignature, IsSigned}
 
 pub what_to_sign : (algorithm : Algorithm) (signer : SignerData) (set : Rrset) (k : ℕ) (inception expiration : ℤ)
     (h : SigInput) (cs : List (List ℕ)) (octets : List ℕ) → expiration_of inception signer.sig_duration ≡ Ok expiration
     → header_of algorithm signer set expiration inception ≡ Ok h
-    → set_data set.name k h.type_covered set.records ≡ Ok cs
+    → set_data (set_covered set.name k h) set.records ≡ Ok cs
     → ◌≡◌ {A = Result (List ℕ) EmitError} (Ok (signed_octets set.name h k cs)) (Ok octets)
     → to_sign algorithm signer set k inception ≡ Ok (h, octets)
 what_to_sign algorithm signer set k inception expiration h cs octets first second third fourth =

@@ -11,11 +11,11 @@ use Rattle.std.specs.List.Sorted.{IsStrictlySortedBy}
 abbrev pub octets_cmp : List ℕ → List ℕ → Ordering
 octets_cmp = slice_cmp nat_cmp
 
--- the strings in strictly ascending order: each is put in its place in turn, unless it stands there
+-- the strings in strictly ascending order: each is put in its place in turn, unless it is there already
 unfoldable pub ascending : List (List ℕ) → List (List ℕ)
 ascending strings = fold (insert_key octets_cmp) [] strings
 
--- each string comes before those behind it
+-- each string comes before those after it
 abbrev pub Ascend : List (List ℕ) → Type 0
 Ascend = IsStrictlySortedBy octets_cmp
 

@@ -5,7 +5,7 @@ use Rattle.dns_wire.specs.declared.error.EmitError.TheVariants as emit
 use Rattle.sec_sign.specs.declared.tbs_error.TbsError.{TbsError}
 use Rattle.sec_sign.specs.declared.tbs_error.TbsError.TheVariants.{Emit, OutOfMemory}
 
--- why a record can't be written, as a cause of the set; want of memory stays such
+-- why a record can't be written, as a cause of the set; out of memory stays such
 abbrev pub tbs_cause : EmitError → TbsError
 tbs_cause emit.OutOfMemory = OutOfMemory
 tbs_cause cause = Emit cause

@@ -1,7 +1,9 @@
 pub mod Ascending
 pub mod Causes
-pub mod MessageSets
+pub mod Sets
+pub mod MessageSignatures
 pub mod Signed
+pub mod SignedSets
 pub mod Signers
 pub mod Signing
 pub mod Verifying

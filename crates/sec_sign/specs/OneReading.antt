@@ -6,7 +6,8 @@ use Rattle.sec_sigdata.specs.declared.sig_input.SigInput.{SigInput}
 use Rattle.sec_sigdata.specs.Signatures.{InputFits}
 use Rattle.dns_rdata.specs.declared.rdata.RData.{RData}
 use Rattle.dns_message.specs.declared.record.Record.{Record}
-use Rattle.sec_sign.specs.Signed.{chosen, set_data, signed_owner, signed}
+use Rattle.sec_sign.specs.Sets.{members, set_data, set_of_record}
+use Rattle.sec_sign.specs.Signed.{set_covered, signed, signed_owner}
 
 -- the seven numbers agree, and the signers are the same name
 pub record SameHeader (h g : SigInput) : Type 0 where
@@ -20,14 +21,18 @@ pub record SameHeader (h g : SigInput) : Type 0 where
   pub signer_name : Same h.signer_name g.signer_name
 
 -- What is signed of two sets is equal exactly where the fields before the signature agree, the data of the sets in
--- ascending order agree, and, unless no record was chosen, the owners as they are signed are the same name and the
+-- ascending order agree, and, unless the set has no record, the owners as they are signed are the same name and the
 -- classes agree.
 abbrev pub OneReading : Type 0
-OneReading = (h g : SigInput) (n z owner other : List (List ℕ)) (k l : ℕ) (records others : List (Record RData))
-    (cs ds : List (List ℕ)) (x y : List ℕ)
-    → InputFits h → InputFits g → IsName n → IsName z → k < 2 ^ 16 → l < 2 ^ 16
-    → signed_owner n h.num_labels ≡ Ok owner → signed_owner z g.num_labels ≡ Ok other
-    → set_data n k h.type_covered records ≡ Ok cs → set_data z l g.type_covered others ≡ Ok ds
-    → signed h n k records ≡ Ok x → signed g z l others ≡ Ok y
-    → (x ≡ y) ↔ (SameHeader h g × (cs ≡ ds)
-    × ((chosen n k h.type_covered records ≡ []) ⊎ (Same owner other × (k ≡ l))))
+OneReading = (input other_input : SigInput) (name other_name owner other_owner : List (List ℕ))
+    (dns_class other_class : ℕ) (records other_records : List (Record RData)) (strings other_strings : List (List ℕ))
+    (octets other_octets : List ℕ)
+    → InputFits input → InputFits other_input → IsName name → IsName other_name
+    → dns_class < 2 ^ 16 → other_class < 2 ^ 16
+    → signed_owner name input.num_labels ≡ Ok owner → signed_owner other_name other_input.num_labels ≡ Ok other_owner
+    → set_data (set_covered name dns_class input) records ≡ Ok strings
+    → set_data (set_covered other_name other_class other_input) other_records ≡ Ok other_strings
+    → signed input name dns_class records ≡ Ok octets → signed other_input other_name other_class other_records ≡ Ok other_octets
+    → (octets ≡ other_octets) ↔ (SameHeader input other_input × (strings ≡ other_strings)
+    × ((members set_of_record (set_covered name dns_class input) records ≡ [])
+    ⊎ (Same owner other_owner × (dns_class ≡ other_class))))

@@ -17,7 +17,8 @@ use Rattle.sec_sigdata.specs.Signatures.{rrsig_data}
 use Rattle.dns_message.specs.RecordSets.{Rrset}
 use Rattle.sec_sign.specs.declared.sign_error.SignError.{SignError}
 use Rattle.sec_sign.specs.declared.sign_error.SignError.TheVariants as causes
-use Rattle.sec_sign.specs.Signed.{set_data, signed_under}
+use Rattle.sec_sign.specs.Sets.{set_data}
+use Rattle.sec_sign.specs.Signed.{set_covered, signed_under}
 use Rattle.sec_sign.specs.Signers.{SignerData}
 
 -- a time in seconds from the start of 1970 on, as the 32 bits that an RRSIG has of it (RFC 4034 3.1.5)
@@ -50,7 +51,7 @@ header_of algorithm signer set expiration inception = do
     signer_name = signer.signer_name;
   }
 
--- why a record can't be written, as a cause of the signature; want of memory stays such
+-- why a record can't be written, as a cause of the signature; out of memory stays such
 abbrev pub emit_cause : EmitError → SignError
 emit_cause emit.OutOfMemory = causes.OutOfMemory
 emit_cause cause = causes.Emit cause
@@ -63,14 +64,15 @@ for_signature (Err cause) = Err (emit_cause cause)
 -- The fields before the signature of a set in a class, valid from the inception on, and the string that is signed; or
 -- the first cause why there are none. The fields have as many labels as the name, so it is signed as it is.
 abbrev pub to_sign : Algorithm → SignerData → Rrset → ℕ → ℤ → Result (SigInput × List ℕ) SignError
-to_sign algorithm signer set k inception = do
+to_sign algorithm signer set dns_class inception = do
   expiration ← expiration_of inception signer.sig_duration
   header ← header_of algorithm signer set expiration inception
-  octets ← for_signature (signed_under set.name header k (set_data set.name k header.type_covered set.records))
+  octets ← for_signature (signed_under set.name header dns_class
+      (set_data (set_covered set.name dns_class header) set.records))
   Ok (header, octets)
 
 -- What a signer answered, whose key signs and refuses as said, and which had this to sign: these fields and a signature
--- of the string; or that the key refused it, by a cause other than want of memory; or want of memory; or why there was
+-- of the string; or that the key refused it, by a cause other than out of memory; or out of memory; or why there was
 -- nothing to sign.
 abbrev pub IsSigned : (List ℕ → List ℕ → Type 0) → (List ℕ → Type 0) → Result (SigInput × List ℕ) SignError
     → Result RRSIG SignError → Type 0

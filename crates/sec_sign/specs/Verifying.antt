@@ -19,12 +19,12 @@ use Rattle.sec_sign.specs.Signed.{signed}
 abbrev pub Relation : Type 0
 Relation = Algorithm → List ℕ → List ℕ → List ℕ → Bool
 
--- why a set has no octets, as a cause of the check; want of memory stays such
+-- why a set has no octets, as a cause of the check; out of memory stays such
 abbrev pub set_cause : TbsError → VerifyRrsigError
 set_cause sets.OutOfMemory = OutOfMemory
 set_cause cause = Tbs cause
 
--- why a key or its signature is refused, as a cause of the check; want of memory stays such
+-- why a key or its signature is refused, as a cause of the check; out of memory stays such
 abbrev pub key_cause : KeyError → VerifyRrsigError
 key_cause keys.OutOfMemory = OutOfMemory
 key_cause cause = KeyCause cause
@@ -41,6 +41,6 @@ of_key (Err cause) = Err (key_cause cause)
 -- else why the key lacks its form, or that the scheme doesn't accept the signature of the string.
 abbrev pub rrsig_verified : Relation → Key → SigData → List (List ℕ) → ℕ → List (Record RData)
     → Result (Unit {0}) VerifyRrsigError
-rrsig_verified accepts key sig n k records = do
-  octets ← of_set (signed sig.input n k records)
+rrsig_verified accepts key sig name dns_class records = do
+  octets ← of_set (signed sig.input name dns_class records)
   of_key (verified key.algorithm key.octets (accepts key.algorithm key.octets octets sig.sig))

@@ -5,27 +5,31 @@ ghost use Rattle.std.specs.List.{All};
 ghost use Rattle.dns_wire.specs.declared.error.EmitError.{EmitError};
 ghost use Rattle.dns_wire.specs.declared.error.EmitError.TheVariants.{OutOfMemory as no_memory};
 ghost use Rattle.dns_wire.specs.Reading.{GivesUnless};
+ghost use Rattle.dns_wire.specs.Sinks.{Takes};
 ghost use Rattle.sec_sign.specs.Ascending.{octets_cmp};
-ghost use Rattle.sec_sign.specs.Signed.{canonical, is_of, set_data};
+ghost use Rattle.sec_sign.specs.Sets.{canonical, same_set, set_data, set_of_record};
+ghost use Rattle.sec_sign.specs.Signed.{records_octets};
+ghost use Rattle.sec_sign.specs.SignedSets.{head_of};
 
+use crate::signed_set::{CanonicalData, SignedHead, put_signed_record};
 use dns_message::Record;
 use dns_names::Name;
 use dns_rdata::RData;
 use dns_types::{DNSClass, RecordType};
-use dns_wire::{EmitError, OutOfMemory};
+use dns_wire::{EmitError, OctetSink, OutOfMemory};
 use std::alloc::Global;
 use std::collections::BTreeSet;
 use std::marker::Model;
 
 /// Whether a record is of the set with this name, class and type.
 fn is_of(rr: &Record<RData>, name: &Name, dns_class: DNSClass, rtype: RecordType) -> bool
-    ensures { result ≡ is_of name.now dns_class rtype rr.now }
+    ensures { result ≡ same_set (set_of_record rr.now) record { name = name.now; dns_class = dns_class; rtype = rtype } }
 {
     rr.record_type() == rtype && rr.dns_class == dns_class && rr.name == *name
 }
 
 /// The data of a record in canonical form, which fit a record.
-#[tactic(auto, unfolding(crate::specs::Signed::canonical))]
+#[tactic(auto, unfolding(crate::specs::Sets::canonical))]
 fn canonical_octets(rdata: &RData, alloc: Global) -> Result<Vec<u8>, EmitError>
     ensures exact { GivesUnless no_memory (λ octets. octets.items) result (canonical rdata.now) }
     ensures short { IfOk result (λ octets. length octets.items < 65536) }
@@ -33,7 +37,7 @@ fn canonical_octets(rdata: &RData, alloc: Global) -> Result<Vec<u8>, EmitError>
     rdata.canonical_octets(alloc)
 }
 
-/// Puts the data of a record in their place, unless they stand there.
+/// Puts the data of a record in their place, unless they are there already.
 fn put(so_far: &mut BTreeSet<Vec<u8>>, octets: Vec<u8>) -> Result<(), EmitError>
     requires each { All (λ c. length c.items < 65536) so_far.old.keys }
     requires short { length octets.items < 65536 }
@@ -56,7 +60,7 @@ fn collect(
     records: &[Record<RData>],
 ) -> Result<BTreeSet<Vec<u8>>, EmitError>
     ensures exact { GivesUnless no_memory (λ found. map (λ c. c.items) found.keys) result
-        (set_data name.now dns_class rtype records.now) }
+        (set_data record { name = name.now; dns_class = dns_class; rtype = rtype } records.now) }
     ensures short { IfOk result (λ found. All (λ c. length c.items < 65536) found.keys) }
 {
     let mut found = BTreeSet::new(alloc);
@@ -101,7 +105,7 @@ impl CanonicalSet {
         records: &[Record<RData>],
     ) -> Result<CanonicalSet, EmitError>
         ensures { GivesUnless EmitError.OutOfMemory (λ set. set) result
-            (set_data name.now dns_class rtype records.now) }
+            (set_data record { name = name.now; dns_class = dns_class; rtype = rtype } records.now) }
     {
         match collect(alloc, name, dns_class, rtype, records) {
             Ok(octets) => Ok(CanonicalSet { octets }),
@@ -122,12 +126,32 @@ impl CanonicalSet {
         rtype: RecordType,
         records: &[Record<RData>],
     ) -> Result<Result<CanonicalSet, EmitError>, OutOfMemory>
-        ensures { IfOk result (λ set. set ≡ set_data name.now dns_class rtype records.now) }
+        ensures { IfOk result (λ set. set
+            ≡ set_data record { name = name.now; dns_class = dns_class; rtype = rtype } records.now) }
     {
         match CanonicalSet::new(alloc, name, dns_class, rtype, records) {
             Ok(set) => Ok(Ok(set)),
             Err(EmitError::OutOfMemory) => Err(OutOfMemory),
             Err(cause) => Ok(Err(cause)),
         }
+    }
+}
+
+/// Puts a record with this head for each of these data, in their order.
+fn put_each<S: OctetSink>(strings: &BTreeSet<Vec<u8>>, head: &SignedHead<'_>, sink: &mut S)
+    requires { All (λ c. length c.items < 65536) strings.now.keys }
+    ensures { Takes S.has_taken sink.old sink.new
+        (records_octets (head_of head.now) (map (λ c. c.items) strings.now.keys)) }
+{
+    for string in strings {
+        put_signed_record(head, string, sink);
+    }
+}
+
+impl CanonicalData for CanonicalSet {
+    ghost strings = { λ set. set };
+
+    fn put_records<S: OctetSink>(&self, head: &SignedHead<'_>, sink: &mut S) {
+        put_each(&self.octets, head, sink);
     }
 }

@@ -1,10 +1,13 @@
 //! Laws of the definitions. Nothing calls these functions.
 ghost use Rattle.std.specs.Prelude.{◌≡◌, ℕ, List, true, IsOk, Ok};
 ghost use Rattle.sec_codes.specs.KeyForms.{key_form};
-ghost use Rattle.sec_sigdata.specs.Signatures.{rrsig_data};
+ghost use Rattle.dns_grammar.specs.Fields.{fields_octets};
+ghost use Rattle.sec_sigdata.specs.declared.sig_input.SigInput.{SigInput};
+ghost use Rattle.sec_sigdata.specs.Signatures.{input_row, input_values, rrsig_data};
 ghost use Rattle.sec_sign.specs.Ascending.{ascending, Ascend, SameStrings};
 ghost use Rattle.sec_sign.specs.KeyedHashes.{key_of_hash};
 ghost use Rattle.sec_sign.specs.OneReading.{OneReading};
+ghost use Rattle.sec_sign.specs.Signed.{header_octets};
 ghost use Rattle.sec_sign.specs.Signers.{signer_data, signing_key};
 ghost use Rattle.sec_sign.specs.Signing.{to_sign, IsSigned};
 ghost use Rattle.sec_sign.specs.Verifying.{rrsig_verified};
@@ -58,4 +61,10 @@ pub fn keyed_hash_accepts(scheme: &KeyedHash, algorithm: Algorithm, key: &KeyedH
 /// the class.
 pub fn signed_one_reading()
     ensures { OneReading }
+{}
+
+/// The data of an RRSIG up to the signature can be written in canonical form whatever they are, and these are their
+/// octets.
+pub fn header_is_written()
+    ensures { (input : SigInput) → fields_octets true input_row (input_values input) ≡ Ok (header_octets input) }
 {}

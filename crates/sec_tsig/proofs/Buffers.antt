@@ -1,23 +1,25 @@
 -- What is under the MAC of a message that is viewed, and its TSIG record.
-use Rattle.std.proofs.Common.{◌≡◌, ℕ, ◌+◌, Bool, List, length, Option, Some, None, option_map, Result, Ok, Err, refl, sym, ap}
+use Rattle.std.proofs.Common.{◌≡◌, ℕ, ◌+◌, Bool, List, length, Option, Some, None, Result, Ok, Err, refl, sym, ap}
 use Rattle.std.proofs.Common.{◌∙◌}
 use Rattle.std.specs.Int.{w16, w32}
+use Rattle.std.specs.Prelude.{IsOk}
 use Rattle.dns_wire.specs.declared.error.DecodeError.{DecodeError}
+use Rattle.dns_wire.specs.Reading.{Gives}
 use Rattle.dns_wire.proofs.FieldLaws.{number_read}
 use Rattle.dns_names.proofs.PlaceLaws.{name_at_complete}
-use Rattle.dns_grammar.specs.Messages.{Header, Message, Outline, ResourceRecord, RecordAt, HasTsig}
+use Rattle.dns_grammar.specs.Messages.{Header, Message, ResourceRecord, RecordAt, Signature}
 use Rattle.dns_grammar.specs.Messages.{last_additional, message_at, signature_of}
 use Rattle.dns_grammar.proofs.MessageLaws.{message_stands}
 use Rattle.dns_rdata.specs.RDataTable.{rdata_table}
-use Rattle.dns_message.specs.declared.tsig_view.TsigView.{TsigView}
-use Rattle.dns_message.specs.declared.view.MessageView.{MessageView}
-use Rattle.dns_message.specs.Views.{header_view, outline_view, outlined, tsig_view, view_header, view_tsig}
-use Rattle.dns_message.proofs.ViewLaws.{has_outline}
 use Rattle.sec_tsig.specs.declared.verify_error.VerifyError.{VerifyError}
-use Rattle.sec_tsig.specs.declared.verify_error.VerifyError.TheVariants as causes
 use Rattle.sec_tsig.specs.Tsig.{received_input, TsigRecord}
+use Rattle.sec_tsig.specs.Verdict.{SignedParts, signed_parts, with_signature}
 use Rattle.sec_tsig.specs.Received.{class_and_ttl_at, input_of_last, input_of_read, received_record, signed_input}
 use Rattle.sec_tsig.proofs.Ranges.{HasRecord, record_of}
+
+-- what a message with this header comes to that ends in this TSIG or in none
+abbrev signed_by : Header → Option Signature → Result SignedParts VerifyError
+signed_by = with_signature (λ header signature. Ok (record { header = header; signature = signature }))
 
 -- the class and the TTL of a record that stands
 class_and_ttl_read : (m : List ℕ) (p : ℕ) (rr : ResourceRecord) (q : ℕ) → RecordAt rdata_table m p rr q
@@ -30,39 +32,47 @@ class_and_ttl_read m p rr q at = rw (
   number_read w32 m (at.fixed + 4) (length m) rr.ttl (at.fixed + 8) at.ttl,
 ) refl
 
--- the message of a view, and its record
-record Viewed (m : List ℕ) (view : MessageView) (tsig : TsigView) : Type 0 where
+-- the message that ends in a TSIG, and its record
+record Viewed (m : List ℕ) (parts : SignedParts) : Type 0 where
   pub x : Message × ℕ
   pub read : message_at rdata_table m ≡ Ok x
-  pub header : x.0.header ≡ header_view (view_header view)
-  pub is_last : signature_of x.0 ≡ Some (tsig_view tsig)
-  pub has : HasRecord m x.0 (tsig_view tsig) x.1
+  pub header : x.0.header ≡ parts.header
+  pub is_last : signature_of x.0 ≡ Some parts.signature
+  pub has : HasRecord m x.0 parts.signature x.1
 
-viewed : (m : List ℕ) (view : MessageView) (tsig : TsigView) → outlined (message_at rdata_table m) ≡ Ok (outline_view view)
-    → view_tsig view ≡ Some tsig → Viewed m view tsig
-viewed m view tsig is some =
-    let o = has_outline m (outline_view view) is in
-    let is_last : signature_of o.x.0 ≡ Some (tsig_view tsig) = ap (λ (y : Outline × ℕ). y.0.signature) o.same
-    ∙ ap (λ (t : Option TsigView). option_map tsig_view t) some in
-    let has : HasTsig rdata_table m o.x.0 (tsig_view tsig) o.x.1 = record {
-      stands = message_stands rdata_table m o.x.0 o.x.1 o.read;
-      is_last = is_last;
-    } in
-    record {
-      x = o.x;
-      read = o.read;
-      header = ap (λ (y : Outline × ℕ). y.0.header) o.same;
-      is_last = is_last;
-      has = record_of m o.x.0 (tsig_view tsig) o.x.1 has;
-    }
+viewed : (m : List ℕ) (parts : SignedParts) → signed_parts (message_at rdata_table m) ≡ Ok parts → Viewed m parts
+viewed m parts is = go (message_at rdata_table m) refl is
+  where
+    same : (found : SignedParts) → ◌≡◌ {A = Result SignedParts VerifyError} (Ok found) (Ok parts) → found ≡ parts
+    same found e = cc
 
-pub class_and_ttl_viewed : (m : List ℕ) (view : MessageView) (tsig : TsigView) (fault : DecodeError)
-    → outlined (message_at rdata_table m) ≡ Ok (outline_view view) → view_tsig view ≡ Some tsig
-    → class_and_ttl_at m tsig.start ≡ Err fault → ⊥
-class_and_ttl_viewed m view tsig fault is some fails =
-    let v = viewed m view tsig is some in
-    let reads = class_and_ttl_read m tsig.start v.has.rr v.x.1 v.has.stands in
-    cc (sym reads ∙ fails)
+    with_last : (x : Message × ℕ) → message_at rdata_table m ≡ Ok x → (last : Option Signature)
+        → signature_of x.0 ≡ last → signed_by x.0.header last ≡ Ok parts → Viewed m parts
+    with_last x read None last is = absurd cc
+    with_last x read (Some s) last is =
+        let own = same (record { header = x.0.header; signature = s }) is in
+        let signature : s ≡ parts.signature = ap (λ (p : SignedParts). p.signature) own in
+        let is_last : signature_of x.0 ≡ Some parts.signature = last ∙ ap (λ (t : Signature). Some t) signature in
+        record {
+          x = x;
+          read = read;
+          header = ap (λ (p : SignedParts). p.header) own;
+          is_last = is_last;
+          has = record_of m x.0 parts.signature x.1
+              (record { stands = message_stands rdata_table m x.0 x.1 read; is_last = is_last });
+        }
+
+    go : (read : Result (Message × ℕ) DecodeError) → message_at rdata_table m ≡ read → signed_parts read ≡ Ok parts
+        → Viewed m parts
+    go (Err fault) read is = absurd cc
+    go (Ok x) read is = with_last x read (signature_of x.0) refl is
+
+-- its class and its TTL are read
+pub class_and_ttl_viewed : (m : List ℕ) (parts : SignedParts) → signed_parts (message_at rdata_table m) ≡ Ok parts
+    → (x : ℕ × ℕ) × (class_and_ttl_at m parts.signature.start ≡ Ok x)
+class_and_ttl_viewed m parts is =
+    let v = viewed m parts is in
+    ((v.has.rr.dns_class, v.has.rr.ttl), class_and_ttl_read m parts.signature.start v.has.rr v.x.1 v.has.stands)
 
 unfoldable value_of : Result (ℕ × ℕ) DecodeError → ℕ × ℕ
 value_of (Ok x) = x
@@ -75,49 +85,42 @@ pair_same a b c d e = (
   ap (λ (r : Result (ℕ × ℕ) DecodeError). (value_of r).1) e,
 )
 
-pub input_viewed : (previous : Option (List ℕ)) (first : Bool) (m : List ℕ) (view : MessageView) (tsig : TsigView)
-    (dns_class ttl : ℕ)
-    → outlined (message_at rdata_table m) ≡ Ok (outline_view view) → view_tsig view ≡ Some tsig
-    → class_and_ttl_at m tsig.start ≡ Ok (dns_class, ttl)
+pub input_viewed : (previous : Option (List ℕ)) (first : Bool) (m : List ℕ) (parts : SignedParts) (dns_class ttl : ℕ)
+    → signed_parts (message_at rdata_table m) ≡ Ok parts
+    → class_and_ttl_at m parts.signature.start ≡ Ok (dns_class, ttl)
     → signed_input previous first m
-    ≡ Ok (
-      received_input previous first m (header_view (view_header view)) (tsig_view tsig),
-      received_record dns_class ttl (tsig_view tsig),
-    )
-input_viewed previous first m view tsig dns_class ttl is some read =
-    let v = viewed m view tsig is some in
-    let s = tsig_view tsig in
+    ≡ Ok (received_input previous first m parts.header parts.signature, received_record dns_class ttl parts.signature)
+input_viewed previous first m parts dns_class ttl is read =
+    let v = viewed m parts is in
     let same = pair_same _ _ _ _
-    (sym (class_and_ttl_read m tsig.start v.has.rr v.x.1 v.has.stands) ∙ read) in
+    (sym (class_and_ttl_read m parts.signature.start v.has.rr v.x.1 v.has.stands) ∙ read) in
     ap (input_of_read previous first m) v.read
     ∙ ap (λ l. input_of_last previous first m v.x.0.header l (signature_of v.x.0)) v.has.last
     ∙ ap (λ l. input_of_last previous first m v.x.0.header (Some v.has.rr) l) v.is_last
     ∙ (λ i. let ok : Result (List ℕ × TsigRecord) VerifyError = Ok
-    (received_input previous first m (v.header i) s, received_record (same.0 i) (same.1 i) s) in ok)
+    (received_input previous first m (v.header i) parts.signature, received_record (same.0 i) (same.1 i) parts.signature)
+    in ok)
 
-pub input_missing : (previous : Option (List ℕ)) (first : Bool) (m : List ℕ) (view : MessageView)
-    → outlined (message_at rdata_table m) ≡ Ok (outline_view view) → view_tsig view ≡ None
-    → signed_input previous first m ≡ Err causes.MissingTsig
-input_missing previous first m view is none =
-    let o = has_outline m (outline_view view) is in
-    let no_last : signature_of o.x.0 ≡ None = ap (λ (y : Outline × ℕ). y.0.signature) o.same
-    ∙ ap (λ (t : Option TsigView). option_map tsig_view t) none in
-    ap (input_of_read previous first m) o.read
-    ∙ ap (λ l. input_of_last previous first m o.x.0.header (last_additional o.x.0) l) no_last
-    ∙ without (last_additional o.x.0) o.x.0.header
+pub input_refused : (previous : Option (List ℕ)) (first : Bool) (m : List ℕ) (cause : VerifyError)
+    → signed_parts (message_at rdata_table m) ≡ Err cause → signed_input previous first m ≡ Err cause
+input_refused previous first m cause is = go (message_at rdata_table m) is
   where
-    without : (last : Option ResourceRecord) (header : Header)
-        → input_of_last previous first m header last None ≡ Err causes.MissingTsig
-    without None header = refl
-    without (Some rr) header = refl
+    with_last : (header : Header) (rr : Option ResourceRecord) (last : Option Signature)
+        → signed_by header last ≡ Err cause → input_of_last previous first m header rr last ≡ Err cause
+    with_last header None None is = cc
+    with_last header (Some rr) None is = cc
+    with_last header rr (Some s) is = absurd cc
 
-pub input_fault : (previous : Option (List ℕ)) (first : Bool) (m : List ℕ) (fault : DecodeError)
-    → outlined (message_at rdata_table m) ≡ Err fault → signed_input previous first m ≡ Err causes.Decode
-input_fault previous first m fault is = go (message_at rdata_table m) is
+    go : (read : Result (Message × ℕ) DecodeError) → signed_parts read ≡ Err cause
+        → input_of_read previous first m read ≡ Err cause
+    go (Ok x) is = with_last x.0.header (last_additional x.0) (signature_of x.0) is
+    go (Err fault) is = cc
+
+-- what is given without a fault
+pub given_is_ok : {A E : Type 0} (result given : Result A E) (x : A) → given ≡ Ok x → Gives (λ y. y) result given
+    → IsOk result
+given_is_ok (Ok y) given x is gives = refl
+given_is_ok {A} {E} (Err e) given x is gives = absurd (no (sym is ∙ gives))
   where
-    go : (read : Result (Message × ℕ) DecodeError) → outlined read ≡ Err fault
-        → input_of_read previous first m read ≡ Err causes.Decode
-    go (Ok x) is = absurd cc
-    go (Err e) is = refl
-
-pub ruleset buffers = (class_and_ttl_viewed, input_viewed, input_missing, input_fault)
+    no : (let ok : Result A E = Ok x in ok) ≡ Err e → ⊥
+    no a = cc

@@ -2,7 +2,8 @@
 use Rattle.std.proofs.Common.{◌≡◌, ℕ, ◌&&◌, false, ◌==◌, is_none, List, length, Option, Some, None, option_map, Result, Ok}
 use Rattle.std.proofs.Common.{Err, refl, ap, ◌∙◌, Bool, true}
 use Rattle.dns_wire.specs.declared.error.DecodeError.{DecodeError}
-use Rattle.dns_grammar.specs.Messages.{Message, Outline, Header, Signature, message_at}
+use Rattle.dns_wire.specs.Reading.{◌>>=◌}
+use Rattle.dns_grammar.specs.Messages.{Message, Outline, Header, Signature, message_at, signature_of}
 use Rattle.dns_rdata.specs.RDataTable.{rdata_table}
 use Rattle.dns_message.specs.declared.tsig_view.TsigView.{TsigView}
 use Rattle.dns_message.specs.declared.view.MessageView.{MessageView}
@@ -10,7 +11,7 @@ use Rattle.dns_message.specs.Views.{header_view, outline_view, outlined, tsig_vi
 use Rattle.dns_message.proofs.ViewLaws.{has_outline}
 use Rattle.sec_tsig.specs.declared.verify_error.VerifyError.{VerifyError}
 use Rattle.sec_tsig.specs.declared.verify_error.VerifyError.TheVariants as causes
-use Rattle.sec_tsig.specs.Verdict.{with_tsig, with_signature}
+use Rattle.sec_tsig.specs.Verdict.{with_tsig, with_signature, signed_parts, SignedParts}
 use Rattle.sec_tsig.specs.Requests.{is_request, reads_request}
 
 -- a message that is viewed
@@ -49,6 +50,52 @@ judged_fault found m fault is = go (message_at rdata_table m) is
         → with_tsig found read ≡ Err causes.Decode
     go (Ok x) is = absurd cc
     go (Err e) is = refl
+
+-- ---- by the parts of a message that ends in a TSIG
+
+pub parts_some : (m : List ℕ) (view : MessageView) (tsig : TsigView)
+    → outlined (message_at rdata_table m) ≡ Ok (outline_view view) → view_tsig view ≡ Some tsig
+    → signed_parts (message_at rdata_table m)
+    ≡ Ok (record { header = header_view (view_header view); signature = tsig_view tsig })
+parts_some = judged_some (λ header signature. Ok (record { header = header; signature = signature }))
+
+pub parts_none : (m : List ℕ) (view : MessageView) → outlined (message_at rdata_table m) ≡ Ok (outline_view view)
+    → view_tsig view ≡ None → signed_parts (message_at rdata_table m) ≡ Err causes.MissingTsig
+parts_none = judged_none (λ header signature. Ok (record { header = header; signature = signature }))
+
+pub parts_fault : (m : List ℕ) (fault : DecodeError) → outlined (message_at rdata_table m) ≡ Err fault
+    → signed_parts (message_at rdata_table m) ≡ Err causes.Decode
+parts_fault = judged_fault (λ header signature. Ok (record { header = header; signature = signature }))
+
+pub ruleset parts = (parts_some, parts_none, parts_fault)
+
+-- what octets come to, by these parts
+by_parts : {X : Type 0} (found : Header → Signature → Result X VerifyError) (read : Result (Message × ℕ) DecodeError)
+    → with_tsig found read ≡ (signed_parts read >>= λ parts. found parts.header parts.signature)
+by_parts found (Err fault) = refl
+by_parts found (Ok x) = go (signature_of x.0)
+  where
+    go : (signature : Option Signature) → with_signature found x.0.header signature
+        ≡ (with_signature (λ header signature. let ok : Result SignedParts VerifyError
+        = Ok (record { header = header; signature = signature }) in ok) x.0.header signature
+        >>= λ parts. found parts.header parts.signature)
+    go None = refl
+    go (Some signature) = refl
+
+pub parts_found : {X : Type 0} (found : Header → Signature → Result X VerifyError) (m : List ℕ) (header : Header)
+    (signature : Signature)
+    → signed_parts (message_at rdata_table m) ≡ Ok (record { header = header; signature = signature })
+    → with_tsig found (message_at rdata_table m) ≡ found header signature
+parts_found found m header signature is =
+    by_parts found (message_at rdata_table m) ∙ ap (λ r. r >>= λ parts. found parts.header parts.signature) is
+
+pub parts_refused : {X : Type 0} (found : Header → Signature → Result X VerifyError) (m : List ℕ) (cause : VerifyError)
+    → signed_parts (message_at rdata_table m) ≡ Err cause
+    → with_tsig found (message_at rdata_table m) ≡ Err cause
+parts_refused found m cause is =
+    by_parts found (message_at rdata_table m) ∙ ap (λ r. r >>= λ parts. found parts.header parts.signature) is
+
+pub ruleset by_view = (parts_found, parts_refused)
 
 -- ---- requests
 

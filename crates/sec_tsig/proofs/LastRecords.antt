@@ -1,4 +1,4 @@
--- Where the record stands that was put behind a message.
+-- Where the record stands that was put after a message.
 use Rattle.std.proofs.Common.{◌≡◌, ℕ, ◌+◌, min, List, length, Some, sym, subst, ◌∙◌, arith}
 use Rattle.std.specs.Int.{w16, byte_len}
 use Rattle.dns_grammar.specs.Fields.{Table}

@@ -4,6 +4,7 @@ pub mod Joins
 pub mod Pieces
 pub mod Ranges
 pub mod ByMessage
+pub mod Accepted
 pub mod OneReadings
 pub mod Buffers
 pub mod LastRecords

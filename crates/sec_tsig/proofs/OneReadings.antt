@@ -58,7 +58,7 @@ regroup : (a b c d e f g h i : List ℕ)
     → (a ++ b ++ c ++ d) ++ (e ++ f) ++ (g ++ h ++ i) ≡ a ++ (b ++ (c ++ (d ++ (e ++ (f ++ (g ++ (h ++ i)))))))
 regroup a b c d e f g h i = simp append_assoc
 
--- the variables, one behind the other
+-- the variables, one after the other
 variables_apart : (n : List (List ℕ)) (a : TsigData) → tsig_variables n a
     ≡ wire (low n) ++ (two_octets any_class ++ (four_octets 0 ++ (wire (low a.algorithm) ++ (six_octets a.time
     ++ (two_octets a.fudge ++ (two_octets a.error ++ (two_octets (length a.other) ++ a.other)))))))
@@ -118,7 +118,7 @@ covered_same false s t r u e =
 
 -- ---- the message
 
--- the input as its parts, one behind the other
+-- the input as its parts, one after the other
 abbrev parts : List ℕ → ℕ → ℕ → List ℕ → ℕ → List ℕ → List ℕ
 parts mac oid additionals m start covered =
     two_octets (length mac)

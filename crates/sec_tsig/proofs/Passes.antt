@@ -75,7 +75,7 @@ request_passes length-hmac signer time octets rr chain signed is given joined =
 
 -- ---- answers
 
--- the record by which a chain's signer signs an answer behind the chain's MAC
+-- the record by which a chain's signer signs an answer after the chain's MAC
 abbrev answer_record : TsigChain → ℕ → ℕ → Option TsigError → List ℕ → List ℕ → TsigRecord
 answer_record chain time oid error other octets =
     signing_record chain.signer (Some chain.mac) chain.first octets (tsig_by chain.signer time oid error other)

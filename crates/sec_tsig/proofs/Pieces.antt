@@ -89,7 +89,7 @@ front_slice front rest a b le le1 =
     ap (λ l. take (b - a) l) (drop-append-le a front rest (omega arith))
     ∙ take-append-le (b - a) (drop a front) rest (simp length-drop (omega arith))
 
--- a part right behind what a string begins with
+-- a part right after what a string begins with
 pub next_slice : (front part rest : List ℕ) (a b : ℕ) → length front ≡ a → length part ≡ b - a
     → slice_range (front ++ (part ++ rest)) a b ≡ part
 next_slice front part rest a b at long =

@@ -1,4 +1,4 @@
--- A message with a record put behind it, taken apart again.
+-- A message with a record put after it, taken apart again.
 use Rattle.std.proofs.Common.{◌≡◌, ◌≢◌, ℕ, ◌+◌, ◌-◌, ◌≤◌, List, ◌++◌, length, take, drop, slice_range, ◌==◌, Bool}
 use Rattle.std.proofs.Common.{true, false, cond, nat_lt, Result, Ok, Err, refl, sym, ap, ◌∙◌, arith, append_assoc, length-append}
 use Rattle.std.specs.Int.{w16, from_be_bytes}
@@ -72,7 +72,7 @@ pub same_body : (octets behind : List ℕ) → 12 ≤ length octets
 same_body octets behind le =
     slice_same octets (join octets behind) 12 (length octets) (sym (joined_body octets behind le))
 
--- the body stands behind the count, and the record where the octets end
+-- the body stands after the count, and the record where the octets end
 pub goes_on_body : (octets behind : List ℕ) → 12 ≤ length octets
     → GoesOn (join octets behind) 12 (body_part octets ++ behind)
 goes_on_body octets behind le = record {
@@ -96,7 +96,7 @@ goes_on_record octets behind le = record {
 
 -- ---- the message as it was
 
--- What was put behind a message is taken off again (RFC 8945 4.3.2).
+-- What was put after a message is taken off again (RFC 8945 4.3.2).
 pub rejoined : (octets behind : List ℕ) (oid additionals : ℕ) → AreOctets octets → 12 ≤ length octets
     → oid ≡ from_be_bytes w16 (slice_range octets 0 2) → additionals ≡ additional_count octets + 1
     → message_without_tsig oid additionals (join octets behind) (length octets) ≡ octets
@@ -118,7 +118,7 @@ rejoined octets behind oid additionals are le id more =
 
 -- ---- what was joined
 
--- the octets of a record that was put behind a message
+-- the octets of a record that was put after a message
 pub record JoinedBy (octets : List ℕ) (rr : TsigRecord) (signed : List ℕ) : Type 0 where
   pub behind : List ℕ
   pub few : additional_count octets ≢ 65535

@@ -72,17 +72,20 @@ record_of has signer time octets below =
           ∙ omega (arith, head_length rr (length rdata), long, mac);
     }
 
+-- the octets of the record of a request
+unfoldable pub request_octets : Signer → ℕ → List ℕ → List ℕ
+request_octets signer time octets =
+    let rr : TsigRecord = request_record signer time octets in with_head rr (data_octets (fields_data rr.tsig))
+
 -- the record is written, and is as long as it is told
 pub record_is : HmacHasLength → (signer : Signer) (time : ℕ) (octets : List ℕ) → time < 2 ^ 48
-    → written_record (request_record signer time octets)
-    ≡ Ok (with_head (request_record signer time octets) (data_octets (fields_data (request_record signer time octets).tsig)))
-unfolding record_of
+    → written_record (request_record signer time octets) ≡ Ok (request_octets signer time octets)
+unfolding record_of request_octets
 record_is has signer time octets below = (record_of has signer time octets below).written
 
 pub record_size : HmacHasLength → (signer : Signer) (time : ℕ) (octets : List ℕ) → time < 2 ^ 48
-    → length (with_head (request_record signer time octets) (data_octets (fields_data (request_record signer time octets).tsig)))
-    ≡ request_record_len signer
-unfolding record_of
+    → length (request_octets signer time octets) ≡ request_record_len signer
+unfolding record_of request_octets
 record_size has signer time octets below = (record_of has signer time octets below).size
 
 -- ---- what octets come to

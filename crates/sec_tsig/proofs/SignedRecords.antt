@@ -1,4 +1,4 @@
--- The TSIG record that signs a message and was put behind it is read as it was made, and its MAC is right.
+-- The TSIG record that signs a message and was put after it is read as it was made, and its MAC is right.
 use Rattle.std.proofs.Common.{◌≡◌, ◌⊎◌, inl, inr, ℕ, ◌+◌, ◌^◌, ◌<◌, ◌≤◌, Bool, true, false, ◌&&◌, nat_lt, List, [], ◌∷◌, ◌++◌}
 use Rattle.std.proofs.Common.{length, drop, slice_range, Option, Some, option_and_then, Ok, refl, sym, ap, subst, ◌∙◌, arith}
 use Rattle.std.proofs.Common.{length-append}
@@ -42,7 +42,7 @@ use Rattle.sec_tsig.proofs.Signable.{short}
 use Rattle.sec_tsig.proofs.WrittenEnds.{written_last}
 use Rattle.sec_tsig.proofs.WrittenMessages.{written_long}
 
--- the signature that a record is behind these octets
+-- the signature that a record is after these octets
 abbrev pub signature_behind : List ℕ → TsigRecord → Signature
 signature_behind octets rr = record { start = length octets; name = rr.name; tsig = fields_data rr.tsig }
 
@@ -192,7 +192,7 @@ uncovered : (previous : Option (List ℕ)) (first : Bool) (m : List ℕ) (owner 
 unfolding mac_input tsig_variables key_variables error_variables tsig_timers
 uncovered previous first m owner tsig mac = refl
 
--- The record that signs octets, put behind them.
+-- The record that signs octets, put after them.
 pub record IsReturned (signer : Signer) (previous : Option (List ℕ)) (first : Bool) (octets : List ℕ) (rr : TsigRecord)
     (signed : List ℕ) (joined : IsJoined octets rr signed) : Type 0 where
   pub has : HasTsig rdata_table signed joined.message (signature_behind octets rr) joined.end

@@ -130,7 +130,7 @@ held_end : (rr : Record RData) (y m : List ℕ) (p : ℕ) (rest : List ℕ) (oth
 held_end rr y m p rest other q name is =
     record_end (record_view rr) (rdata_octets false (rdata_row rr.rdata) (rdata_values rr.rdata)) y m p rest other q name is
 
--- ---- several, one behind the other
+-- ---- several, one after the other
 
 -- octets that begin with what was joined first
 opened : {a b : Result (List ℕ) EmitError} {y : List ℕ} (w : Joins a b y) (m : List ℕ) (p : ℕ) (rest : List ℕ)
@@ -225,7 +225,7 @@ record WrittenParts (message : Message) (octets : List ℕ) : Type 0 where
   pub additionals_is : each_octets of_record message.additionals.items ≡ Ok additionals
   pub all : octets ≡ header ++ (queries ++ (answers ++ (authorities ++ additionals)))
 
--- what is joined with nothing behind it
+-- what is joined with nothing after it
 none_behind : (a b c x y : List ℕ) → a ++ x ≡ y → b ++ c ≡ x → [] ≡ c → a ++ b ≡ y
 none_behind a b c x y p q r = ap (λ l. a ++ l) (sym (append-nil b) ∙ ap (λ l. b ++ l) r ∙ q) ∙ p
 
@@ -280,7 +280,7 @@ written_length : (h a b c d : List ℕ) → length (h ++ (a ++ (b ++ (c ++ d))))
     ≡ length h + (length a + (length b + (length c + length d)))
 written_length h a b c d = simp length-append
 
--- The record that was put behind a message that was written stands where that ends.
+-- The record that was put after a message that was written stands where that ends.
 pub written_last : (message : Message) (octets back : List ℕ) (after : grammar.Message) (e : ℕ) (rr : ResourceRecord)
     → IsUnsigned message → written_message false Uncompressed message ≡ Ok octets
     → MessageAt rdata_table (join octets back) after e

@@ -32,7 +32,7 @@ pub both_lengths : {a b : Result (List ℕ) EmitError} {x : List ℕ} (w : Joins
     → length w.first + length w.second ≡ length x
 both_lengths w = sym (length-append w.first w.second) ∙ ap (λ (l : List ℕ). length l) w.whole
 
--- what is joined behind one another
+-- what is joined after one another
 pub joined_four : (x a x1 b x2 c x3 d e : List ℕ) → a ++ x1 ≡ x → b ++ x2 ≡ x1 → c ++ x3 ≡ x2 → d ++ e ≡ x3
     → x ≡ a ++ (b ++ (c ++ (d ++ e)))
 joined_four x a x1 b x2 c x3 d e p q r s =

@@ -25,7 +25,7 @@ use Rattle.sec_tsig.specs.Responses.{Reply, Response, Signed, WithServerTime, re
 abbrev pub IsNoMessage : List ℕ → Type 0
 IsNoMessage octets = (message : Message) (e : ℕ) → MessageAt rdata_table octets message e → ⊥
 
--- Where a message stands, whatever is behind it, its header and its TSIG decide the verdict.
+-- Where a message stands, whatever is after it, its header and its TSIG decide the verdict.
 abbrev pub VerdictIsByMessage : Type 0
 VerdictIsByMessage = (chain : TsigChain) (octets : List ℕ) (message : Message) (e : ℕ)
     → MessageAt rdata_table octets message e
@@ -80,7 +80,7 @@ pub record OneReading (chain other : TsigChain) (m n : List ℕ) (s t : Signatur
   pub others : chain.first ≡ true → s.tsig.other ≡ t.tsig.other
 
 -- Octets under a MAC have one reading: two messages m and n that two chains accept, and whose MAC inputs are equal, say
--- the same up to their signatures but for the ID that was received, and have the same chains behind them as far as MACs
+-- the same up to their signatures but for the ID that was received, and have the same chains after them as far as MACs
 -- tell.
 abbrev pub InputHasOneReading : Type 0
 InputHasOneReading = (chain other : TsigChain) (m n : List ℕ) (s t : Signature)
@@ -97,7 +97,7 @@ pub record IsSigner (signer : Signer) : Type 0 where
   pub name : IsName signer.name
   pub fudge : signer.fudge < 2 ^ 16
 
--- octets in which a message stands, and nothing is behind it
+-- octets in which a message stands, and nothing is after it
 abbrev pub IsWhole : List ℕ → Type 0
 IsWhole octets = (message : Message) × MessageAt rdata_table octets message (length octets)
 
@@ -114,7 +114,7 @@ abbrev pub IsWritten : List ℕ → Type 0
 IsWritten octets =
     (message : HeldMessage) × IsUnsigned message × (written_message false Uncompressed message ≡ Ok octets)
 
--- Octets are a message, or are written of one, and with a TSIG record put behind them they are a message (RFC 8945 5.1).
+-- Octets are a message, or are written of one, and with a TSIG record put after them they are a message (RFC 8945 5.1).
 -- So they had no TSIG, which would not be the last record now. That they are a message with the record is a premise,
 -- since a name may point at the additional count, which is one more now.
 pub record IsJoined (octets : List ℕ) (rr : TsigRecord) (signed : List ℕ) : Type 0 where

@@ -1,9 +1,9 @@
-pub mod InputBuffers
-pub mod RecordBuffers
 pub mod Tsig
+pub mod Unsigned
 pub mod Signers
 pub mod Verdict
 pub mod Notices
+pub mod SignedViews
 pub mod Received
 pub mod Views
 pub mod MessageSigning
@@ -12,3 +12,4 @@ pub mod Responses
 pub mod Replies
 pub mod Laws
 pub mod ErrorTexts
+pub mod ResponseCauses

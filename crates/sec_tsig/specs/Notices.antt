@@ -3,6 +3,8 @@ use Rattle.std.specs.Prelude.{Bool, ℕ, ◌%◌, nat_eq, if◌then◌else◌, L
 use Rattle.std.specs.Result.{result_ok}
 use Rattle.dns_wire.specs.Reading.{◌>>=◌, time_at}
 use Rattle.dns_grammar.specs.Messages.{Header, Message, Signature, signature_of}
+use Rattle.sec_sigdata.specs.declared.tsig_error.TsigError.TheVariants.{BadTime}
+use Rattle.sec_sigdata.specs.TsigErrors.{error_number}
 use Rattle.sec_tsig.specs.declared.tsig_step.TsigStep.{TsigStep}
 
 -- The number of the error that a first answer tells. The form of the MAC input of a later answer doesn't cover it
@@ -10,10 +12,6 @@ use Rattle.sec_tsig.specs.declared.tsig_step.TsigStep.{TsigStep}
 abbrev pub notice_error : Bool → Option Signature → ℕ
 notice_error first None = 0
 notice_error first (Some signature) = if first then signature.tsig.error else 0
-
--- the number of the error BADTIME (RFC 8945 3)
-abbrev pub bad_time : ℕ
-bad_time = 18
 
 -- the time that octets are, where they are six (RFC 8945 5.2.3)
 abbrev pub time_of_octets : List ℕ → Option ℕ
@@ -24,7 +22,7 @@ time_of_octets octets =
 abbrev pub notice_time : Bool → Option Signature → Option ℕ
 notice_time first None = None
 notice_time first (Some signature) =
-    if nat_eq (notice_error first (Some signature)) bad_time then time_of_octets signature.tsig.other else None
+    if nat_eq (notice_error first (Some signature)) (error_number BadTime) then time_of_octets signature.tsig.other else None
 
 -- the RCODE, the lowest four bits of the flags (RFC 1035 4.1.1)
 abbrev pub rcode_of : Header → ℕ

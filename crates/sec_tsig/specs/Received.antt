@@ -16,7 +16,7 @@ use Rattle.sec_tsig.specs.Tsig.{received_input, TsigRecord}
 use Rattle.sec_tsig.specs.Signers.{Signer}
 use Rattle.sec_tsig.specs.Verdict.{checked_mac, window_start, window_end, with_tsig}
 
--- a MAC, the time signed, and the window: its first second, and the one behind its last
+-- a MAC, the time signed, and the window: its first second, and the one after its last
 pub record Checked : Type 0 where
   pub mac : List ℕ
   pub time : ℕ

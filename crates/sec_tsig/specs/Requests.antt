@@ -1,10 +1,11 @@
 -- Requests, and how they are signed (RFC 8945 5.1).
-use Rattle.std.specs.Prelude.{◌≡◌, ℕ, ◌+◌, ◌^◌, List, ◌++◌, length, drop, Bool, false, ◌&&◌, ◌==◌, nat_lt, Option, None}
+use Rattle.std.specs.Prelude.{◌≡◌, ℕ, ◌+◌, ◌^◌, List, length, Bool, false, ◌&&◌, ◌==◌, nat_lt, Option, None}
 use Rattle.std.specs.Prelude.{Result, Ok, Err, is_none, option_map, if◌then◌else◌}
 use Rattle.std.specs.Result.{result_ok}
 use Rattle.dns_wire.specs.declared.error.DecodeError.{DecodeError}
 use Rattle.dns_wire.specs.declared.error.EmitError.{EmitError}
 use Rattle.dns_wire.specs.declared.error.EmitError.TheVariants.{CountTooLarge}
+use Rattle.dns_wire.specs.Rooms.{filled}
 use Rattle.dns_grammar.specs.Messages.{Message, message_at, signature_of}
 use Rattle.dns_rdata.specs.RDataTable.{rdata_table}
 use Rattle.sec_tsig.specs.declared.request_error.RequestError.{RequestError}
@@ -38,7 +39,7 @@ signed_request signer time octets =
 
 -- ---- why there is none
 
--- Why no record is put behind a request. The record itself can always be written, so that it is the count or the length.
+-- Why no record is put after a request. The record itself can always be written, so that it is the count or the length.
 abbrev pub request_cause : EmitError → RequestError
 request_cause CountTooLarge = causes.CountTooLarge
 request_cause _ = causes.MessageTooLong
@@ -57,15 +58,11 @@ signed_or_cause signer time octets =
     else Err causes.NotARequest)
     else Err causes.TimeTooLarge
 
--- octets at the start of a room, where that has room for them
-abbrev pub placed_in : List ℕ → List ℕ → List ℕ
-placed_in room octets = if nat_lt (length room) (length octets) then room else octets ++ drop (length octets) room
-
--- Ok tells the length of what the definition gives, and put it to the room where that is long enough; the MAC is that of
--- the chain before the first answer. A refusal is the definition's, and left the room as it was.
+-- Ok is the length of what the definition gives, which was put to the buffer where that is long enough; the MAC is that
+-- of the chain before the first answer. A refusal is the definition's, and left the buffer as it was.
 abbrev pub SignsTo : Result (ℕ × Mac) RequestError → List ℕ → List ℕ → TsigChain → Result (List ℕ) RequestError → Type 0
 SignsTo (Ok signed) old new chain given =
-    (octets : List ℕ) × (given ≡ Ok octets) × (signed.0 ≡ length octets) × (new ≡ placed_in old octets)
+    (octets : List ℕ) × (given ≡ Ok octets) × (signed.0 ≡ length octets) × (new ≡ filled old octets)
     × (mac_octets signed.1 ≡ chain.mac)
 SignsTo (Err cause) old new chain given = (given ≡ Err cause) × (new ≡ old)
 

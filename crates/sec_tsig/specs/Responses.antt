@@ -1,16 +1,16 @@
 -- How an answer to a signed request is signed (RFC 8945 5.2, 5.3).
-use Rattle.std.specs.Prelude.{Bool, ℕ, ◌^◌, List, [], length, true, ◌||◌, nat_eq, nat_lt, if◌then◌else◌}
+use Rattle.std.specs.Prelude.{Bool, ℕ, ◌^◌, List, [], true, ◌||◌, nat_eq, nat_lt, if◌then◌else◌}
 use Rattle.std.specs.Prelude.{Option, Some, Result, Ok, Err}
 use Rattle.dns_wire.specs.Octets.{six_octets}
 use Rattle.sec_sigdata.specs.declared.tsig_algorithm.TsigAlgorithm.TheVariants.{HmacSha256}
 use Rattle.sec_sigdata.specs.declared.tsig_error.TsigError.{TsigError}
 use Rattle.sec_sigdata.specs.declared.tsig_error.TsigError.TheVariants.{BadSig, BadKey, BadTime}
-use Rattle.sec_sigdata.specs.TsigErrors.{optional_error_number}
+use Rattle.sec_sigdata.specs.TsigErrors.{error_number, optional_error_number}
 use Rattle.sec_sigdata.specs.TsigRecords.{TsigFields}
 use Rattle.sec_tsig.specs.declared.sign_error.TsigSignError.{TsigSignError}
 use Rattle.sec_tsig.specs.declared.sign_error.TsigSignError.TheVariants as causes
 use Rattle.sec_tsig.specs.Tsig.{TsigRecord, made_record}
-use Rattle.sec_tsig.specs.Signers.{Signer, tsig_by, signing_record}
+use Rattle.sec_tsig.specs.Signers.{Signer, tsig_by, signed_after}
 
 -- Which answer is signed: one with this error or none to a request of this MAC; one that tells the server's time, since
 -- the request's time was not in its window; one to a request whose MAC was wrong; one to a request under an unknown
@@ -31,21 +31,18 @@ pub record Response : Type 0 where
 abbrev pub default_fudge : ℕ
 default_fudge = 300
 
--- whether an answer with this error is not signed
+-- whether an answer with this error is not signed: BADSIG and BADKEY (RFC 8945 5.3.2)
 abbrev pub is_unsigned : Option TsigError → Bool
-is_unsigned error = nat_eq (optional_error_number error) 16 || nat_eq (optional_error_number error) 17
+is_unsigned error =
+    nat_eq (optional_error_number error) (error_number BadSig) || nat_eq (optional_error_number error) (error_number BadKey)
 
--- whether an answer with this error tells the server's time
+-- whether an answer with this error tells the server's time: BADTIME (RFC 8945 5.2.3)
 abbrev pub tells_time : Option TsigError → Bool
-tells_time error = nat_eq (optional_error_number error) 18
+tells_time error = nat_eq (optional_error_number error) (error_number BadTime)
 
 -- the record of an answer that covers the MAC of its request, or the first cause why there is none
 abbrev pub signed_reply : Signer → List ℕ → List ℕ → TsigFields → Result TsigRecord TsigSignError
-signed_reply signer request_mac response tsig =
-    if nat_lt tsig.time (2 ^ 48) then
-    (if nat_lt (length request_mac) (2 ^ 16) then Ok (signing_record signer (Some request_mac) true response tsig)
-    else Err causes.MacTooLong)
-    else Err causes.TimeTooLarge
+signed_reply signer request_mac = signed_after signer request_mac true
 
 -- the record of an answer that is not signed, or the cause why there is none
 abbrev pub unsigned_reply : List (List ℕ) → TsigFields → Result TsigRecord TsigSignError

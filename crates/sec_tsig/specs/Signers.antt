@@ -72,14 +72,16 @@ request_tsig signer time octets = tsig_by signer time (message_id octets) None [
 abbrev pub request_record : Signer → ℕ → List ℕ → TsigRecord
 request_record signer time octets = signing_record signer None true octets (request_tsig signer time octets)
 
--- the record that signs a later answer behind the one of this MAC, and covers the timers alone (RFC 8945 5.3.1)
-abbrev pub later_record : Signer → List ℕ → List ℕ → ℕ → ℕ → TsigRecord
-later_record signer previous response id time =
-    signing_record signer (Some previous) false response (tsig_by signer time id None [])
+-- The record that signs octets after the message of this MAC, or the first cause why there is none: TimeTooLarge for a
+-- time of 2^48 or more, MacTooLong for a MAC that its length of two octets can't count.
+abbrev pub signed_after : Signer → List ℕ → Bool → List ℕ → TsigFields → Result TsigRecord TsigSignError
+signed_after signer previous first octets tsig =
+    if nat_lt tsig.time (2 ^ 48) then
+    (if nat_lt (length previous) (2 ^ 16) then Ok (signing_record signer (Some previous) first octets tsig)
+    else Err MacTooLong)
+    else Err TimeTooLarge
 
--- the same, or the first cause why there is none
+-- the record that signs a later answer after the one of this MAC, and covers the timers alone (RFC 8945 5.3.1)
 abbrev pub signed_later : Signer → List ℕ → List ℕ → ℕ → ℕ → Result TsigRecord TsigSignError
 signed_later signer previous response id time =
-    if nat_lt time (2 ^ 48) then
-    (if nat_lt (length previous) (2 ^ 16) then Ok (later_record signer previous response id time) else Err MacTooLong)
-    else Err TimeTooLarge
+    signed_after signer previous false response (tsig_by signer time id None [])

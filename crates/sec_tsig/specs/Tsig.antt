@@ -1,13 +1,14 @@
 -- What a transaction signature covers, and the record that carries it (RFC 8945 4.2, 4.3).
-use Rattle.std.specs.Prelude.{ℕ, ◌+◌, ◌-◌, ◌^◌, ◌<◌, List, [], ◌++◌, length, slice_range, Bool, true, false}
+use Rattle.std.specs.Prelude.{◌≡◌, ℕ, ◌+◌, ◌-◌, ◌^◌, ◌<◌, List, [], ◌++◌, length, slice_range, Bool, false}
 use Rattle.std.specs.Prelude.{Option, Some, None, Result, Ok, Err, nat_lt, ◌==◌, if◌then◌else◌}
 use Rattle.std.specs.Int.{w16, from_be_bytes}
 use Rattle.dns_wire.specs.declared.encoder.NameEncoding.TheVariants.{Uncompressed}
 use Rattle.dns_wire.specs.declared.error.EmitError.{EmitError}
 use Rattle.dns_wire.specs.declared.error.EmitError.TheVariants.{CountTooLarge, MacTooLong, MessageTooLong}
-use Rattle.dns_wire.specs.declared.error.EmitError.TheVariants.{OtherTooLong, TimeTooLarge}
+use Rattle.dns_wire.specs.Joining.{joined}
 use Rattle.dns_wire.specs.Octets.{two_octets}
 use Rattle.dns_wire.specs.Reading.{◌>>=◌}
+use Rattle.dns_grammar.specs.Fields.{Num, Time, Two, counted_octets, value_octets}
 use Rattle.dns_grammar.specs.RecordData.{tsig_type}
 use Rattle.dns_grammar.specs.Messages.{Header, ResourceRecord, Signature, TsigData, tsig_values}
 use Rattle.dns_grammar.specs.MessageWriting.{record_octets}
@@ -15,17 +16,18 @@ use Rattle.sec_codes.specs.declared.proof.Proof.{Proof}
 use Rattle.sec_codes.specs.declared.proof.Proof.TheVariants.{Indeterminate}
 use Rattle.sec_sigdata.specs.declared.tsig.TSIG.{TSIG}
 use Rattle.sec_sigdata.specs.TsigRecords.{TsigFields, any_class, fields_data, tsig_fields, tsig_timers, tsig_variables}
+use Rattle.sec_sigdata.specs.TsigRecords.{written_variables}
 use Rattle.dns_rdata.specs.RDataTable.{rdata_table}
 use Rattle.dns_message.specs.declared.record.Record.{Record}
 
 -- ---- the octets under a MAC
 
--- the MAC of the message before, behind its length; nothing where there is none (RFC 8945 4.3.1)
+-- the MAC of the message before, after its length; nothing where there is none (RFC 8945 4.3.1)
 unfoldable pub prior_mac : Option (List ℕ) → List ℕ
 prior_mac None = []
 prior_mac (Some mac) = two_octets (length mac) ++ mac
 
--- The message as it was before a TSIG record, which starts at `start`, was put behind it: under its original ID, and
+-- The message as it was before a TSIG record, which starts at `start`, was put after it: under its original ID, and
 -- with an additional count of one less (RFC 8945 4.3.2).
 unfoldable pub message_without_tsig : ℕ → ℕ → List ℕ → ℕ → List ℕ
 message_without_tsig oid additionals m start =
@@ -50,22 +52,22 @@ received_input previous first m header s =
 abbrev pub IsCounted : List ℕ → Type 0
 IsCounted mac = length mac < 2 ^ 16
 
--- octets, unless a time or other data have no room in their fields
-abbrev pub if_fields_fit : TsigData → List ℕ → Result (List ℕ) EmitError
-if_fields_fit tsig octets =
-    if nat_lt tsig.time (2 ^ 48) then (if nat_lt (length tsig.other) (2 ^ 16) then Ok octets else Err OtherTooLong)
-    else Err TimeTooLarge
+-- the timers, or TimeTooLarge for a time of 2^48 or more
+abbrev pub written_timers : TsigData → Result (List ℕ) EmitError
+written_timers tsig = joined (value_octets false Time (Num tsig.time)) (Ok (two_octets tsig.fudge))
 
--- The octets under the MAC of a first message, or the first cause why there are none: a MAC before it that is too long,
--- a time or other data that have no room in their fields.
-abbrev pub written_input : Option (List ℕ) → List ℕ → List (List ℕ) → TsigData → Result (List ℕ) EmitError
-written_input None octets owner tsig = if_fields_fit tsig (mac_input None true octets owner tsig)
-written_input (Some mac) octets owner tsig =
-    if nat_lt (length mac) (2 ^ 16) then if_fields_fit tsig (mac_input (Some mac) true octets owner tsig) else Err MacTooLong
+-- what a MAC covers of its own TSIG record, or the first field that can't be written
+abbrev pub written_covered : Bool → List (List ℕ) → TsigData → Result (List ℕ) EmitError
+written_covered first owner tsig = if first then written_variables owner tsig else written_timers tsig
 
--- the same of a message that is written first
-abbrev pub message_input : Result (List ℕ) EmitError → List (List ℕ) → TsigData → Result (List ℕ) EmitError
-message_input written owner tsig = written >>= λ octets. written_input None octets owner tsig
+-- The octets under a MAC, or the first cause why there are none: MacTooLong for a MAC before the message that its length
+-- of two octets can't count, the cause why the message has no octets, the first field of the record that can't be
+-- written.
+abbrev pub written_input : Option (List ℕ) → Result (List ℕ) EmitError → Bool → List (List ℕ) → TsigData
+    → Result (List ℕ) EmitError
+written_input None message first owner tsig = joined message (written_covered first owner tsig)
+written_input (Some mac) message first owner tsig =
+    joined (counted_octets Two MacTooLong mac) (joined message (written_covered first owner tsig))
 
 -- ---- the record
 
@@ -109,7 +111,7 @@ written_record rr = record_octets false Uncompressed rdata_table (resource_recor
 abbrev pub additional_count : List ℕ → ℕ
 additional_count octets = from_be_bytes w16 (slice_range octets 10 12)
 
--- the octets of a message with a record put behind them and counted among its additionals
+-- the octets of a message with a record put after them and counted among its additionals
 abbrev pub join : List ℕ → List ℕ → List ℕ
 join octets behind =
     slice_range octets 0 10 ++ two_octets (additional_count octets + 1) ++ slice_range octets 12 (length octets) ++ behind
@@ -118,10 +120,17 @@ join octets behind =
 abbrev pub sized : List ℕ → Result (List ℕ) EmitError
 sized octets = if nat_lt 65535 (length octets) then Err MessageTooLong else Ok octets
 
--- A message with a TSIG record put behind it, or the first cause why there is none: CountTooLarge for 65,535
+-- A message with a TSIG record put after it, or the first cause why there is none: CountTooLarge for 65,535
 -- additionals, since there is no number above that for them (RFC 8945 5.1), the cause of the record, and MessageTooLong
 -- for more than 65,535 octets.
 abbrev pub with_record : List ℕ → TsigRecord → Result (List ℕ) EmitError
 with_record octets rr =
     if additional_count octets == 65535 then Err CountTooLarge
     else (written_record rr >>= λ behind. sized (join octets behind))
+
+-- Ok: how many octets the message has with the record after it. An error is the cause why there is none.
+abbrev pub JoinsTo : Result ℕ EmitError → List ℕ → TsigRecord → Type 0
+JoinsTo (Ok n) octets rr =
+    (behind : List ℕ) × (written_record rr ≡ Ok behind) × (with_record octets rr ≡ Ok (join octets behind))
+    × (n ≡ length octets + length behind)
+JoinsTo (Err cause) octets rr = with_record octets rr ≡ Err cause

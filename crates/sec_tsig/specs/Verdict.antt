@@ -8,6 +8,7 @@ use Rattle.dns_names.specs.Names.{wire, same}
 use Rattle.dns_grammar.specs.Messages.{Header, Message, Signature, signature_of, message_at}
 use Rattle.sec_digest.specs.Hmac.{hmac, mac_len}
 use Rattle.dns_rdata.specs.RDataTable.{rdata_table}
+use Rattle.dns_message.specs.Parts.{has_qr}
 use Rattle.sec_tsig.specs.declared.sign_error.TsigSignError.{TsigSignError}
 use Rattle.sec_tsig.specs.declared.sign_error.TsigSignError.TheVariants.{TimeTooLarge}
 use Rattle.sec_tsig.specs.declared.verify_error.VerifyError.{VerifyError}
@@ -64,7 +65,7 @@ checked_mac signer previous first m header signature =
 -- ---- the verdict
 
 -- the first and the last second but one in which the request was to be sent: from the fudge before the time signed on,
--- or from 0, up to the fudge behind it and without that second (RFC 8945 5.2.3)
+-- or from 0, up to the fudge after it and without that second (RFC 8945 5.2.3)
 abbrev pub window_start : Signature → ℕ
 window_start signature = signature.tsig.time - signature.tsig.fudge
 
@@ -78,11 +79,11 @@ is_in_time chain signature =
     && nat_le (window_start signature) chain.request_time
     && nat_lt chain.request_time (window_end signature)
 
--- whether the bit QR, the highest of the flags, is set (RFC 1035 4.1.1)
+-- whether the bit QR is set (RFC 1035 4.1.1)
 abbrev pub is_response : Header → Bool
-is_response header = nat_le 0x8000 header.flags
+is_response header = has_qr header.flags
 
--- the chain behind an accepted answer of this MAC and this time
+-- the chain after an accepted answer of this MAC and this time
 abbrev pub advanced : TsigChain → List ℕ → ℕ → TsigChain
 advanced chain mac time = record chain { mac = mac; time = time; first = false }
 
@@ -106,6 +107,15 @@ abbrev pub with_tsig : {X : Type 0} → (Header → Signature → Result X Verif
 with_tsig found (Err _) = Err causes.Decode
 with_tsig found (Ok x) = with_signature found x.0.header (signature_of x.0)
 
--- The verdict on octets: the first cause that holds against them, or the chain behind them, where none does.
+-- the header and the TSIG of a message that ends in one
+pub record SignedParts : Type 0 where
+  pub header : Header
+  pub signature : Signature
+
+-- these parts of what is read, or Decode or MissingTsig
+abbrev pub signed_parts : Result (Message × ℕ) DecodeError → Result SignedParts VerifyError
+signed_parts = with_tsig (λ header signature. Ok (record { header = header; signature = signature }))
+
+-- The verdict on octets: the first cause that holds against them, or the chain after them, where none does.
 abbrev pub verdict : TsigChain → List ℕ → Result TsigChain VerifyError
 verdict chain m = with_tsig (signature_verdict chain m) (message_at rdata_table m)

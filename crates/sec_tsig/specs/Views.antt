@@ -17,7 +17,7 @@ use Rattle.std.specs.Global.{Vec}
 use Rattle.sec_tsig.specs.Verdict.{TsigChain, advanced}
 use Rattle.sec_tsig.specs.Received.{Checked}
 
--- the chain behind an accepted answer
+-- the chain after an accepted answer
 abbrev pub stepped : TsigChain → TsigStep → TsigChain
 stepped chain step = advanced chain (mac_octets step.mac) step.time
 
@@ -26,7 +26,7 @@ abbrev pub MovesChain : {X : Type 0} → Result X VerifyError → TsigChain → 
 MovesChain (Ok _) old new verdict = verdict ≡ Ok new
 MovesChain (Err cause) old new verdict = (verdict ≡ Err cause) × (new ≡ old)
 
--- the same, but that want of memory may come in place of any answer
+-- the same, but that out of memory may come in place of any answer
 abbrev pub MovesChainUnless : {X : Type 0} → Result X VerifyError → TsigChain → TsigChain → Result TsigChain VerifyError → Type 0
 MovesChainUnless (Ok _) old new verdict = verdict ≡ Ok new
 MovesChainUnless (Err cause) old new verdict = ((cause ≡ causes.OutOfMemory) ⊎ (verdict ≡ Err cause)) × (new ≡ old)
@@ -42,7 +42,7 @@ pub record IsResponseOf (m : List ℕ) (response : DnsResponse) : Type 0 where
 abbrev pub checked_view : Vec ℕ × ℕ × Range ℕ → Checked
 checked_view x = record { mac = x.0.items; time = x.1; start = x.2.start; end = x.2.end }
 
--- Ok made of the old octets those that the definition gives; an error is want of memory or the definition's, and left
+-- Ok made of the old octets those that the definition gives; an error is out of memory or the definition's, and left
 -- them as they were
 abbrev pub Becomes : Result (Unit {0}) EmitError → List ℕ → List ℕ → Result (List ℕ) EmitError → Type 0
 Becomes (Ok _) old new given = given ≡ Ok new

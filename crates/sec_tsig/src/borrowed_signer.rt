@@ -1,17 +1,20 @@
 //! Signers whose key is the caller's.
-ghost use Rattle.std.specs.Prelude.{◌≡◌, ◌<◌, ◌^◌, [], length};
+ghost use Rattle.std.specs.Prelude.{◌≡◌, ◌<◌, ◌^◌, ℕ, List, [], length, false, Ok, IsOk};
 ghost use Rattle.std.specs.Option.{option_copied, ForSome};
-ghost use Rattle.sec_digest.specs.Hmac.{Feeds, mac_len};
+ghost use Rattle.dns_wire.specs.declared.encoder.NameEncoding.TheVariants.{Uncompressed};
+ghost use Rattle.sec_digest.specs.Hmac.{Feeds, hmac, mac_len};
 ghost use Rattle.sec_digest.specs.Mac.{mac_octets};
 ghost use Rattle.sec_sigdata.specs.TsigAlgorithms.{algorithm_with};
 ghost use Rattle.sec_sigdata.specs.TsigRecords.{borrowed_data, borrowed_fields};
 ghost use Rattle.sec_tsig.specs.Signers.{signing_mac, tsig_by};
 ghost use Rattle.sec_tsig.specs.Tsig.{IsCounted, mac_input};
 
-use crate::mac_input::take_outgoing;
+use crate::mac_input::{MacInput, put_input};
+use dns_grammar::FieldOut;
 use dns_names::Name;
+use dns_wire::Putting;
 use sec_digest::{Hmac, HmacHash, Mac};
-use sec_sigdata::{BorrowedTsig, TsigAlgorithm, TsigError};
+use sec_sigdata::{BorrowedTsig, TsigAlgorithm, TsigError, TsigVariables};
 use std::marker::Model;
 
 /// A signer whose key and name are borrowed: what signs and checks without memory.
@@ -80,50 +83,66 @@ impl<'a> BorrowedSigner<'a> {
         self.hash.output_len()
     }
 
-    /// The data of a TSIG by this signer, without a MAC.
-    pub(crate) fn tsig_by<'b>(
+    /// The owner and the data of a TSIG by this signer, without a MAC.
+    pub(crate) fn tsig_by(
         &self,
         time: u64,
         oid: u16,
         error: Option<TsigError>,
-        other: &'b [u8],
-    ) -> BorrowedTsig<'b>
-        ensures { borrowed_fields result ≡ tsig_by self.now time oid error other.now }
+        other: &'a [u8],
+    ) -> TsigVariables<'a>
+        ensures owner { result.key_name.now ≡ self.now.name }
+        ensures fields { borrowed_fields result.tsig ≡ tsig_by self.now time oid error other.now }
     {
-        BorrowedTsig {
-            algorithm: self.algorithm(),
-            time,
-            fudge: self.fudge,
-            mac: &[],
-            oid,
-            error,
-            other,
+        TsigVariables {
+            key_name: self.name,
+            tsig: BorrowedTsig {
+                algorithm: self.algorithm(),
+                time,
+                fudge: self.fudge,
+                mac: &[],
+                oid,
+                error,
+                other,
+            },
         }
     }
 
-    /// The MAC of octets that are sent with a TSIG record of these data.
-    pub(crate) fn signing_mac(
-        &self,
-        previous: Option<&[u8]>,
-        first: bool,
-        octets: &[u8],
-        tsig: &BorrowedTsig<'_>,
-    ) -> Mac
-        requires previous { ForSome (option_copied previous) IsCounted }
-        requires time { tsig.now.time < 2 ^ 48 }
-        requires other { length tsig.now.other.now < 2 ^ 16 }
-        ensures { mac_octets result ≡ signing_mac self.now (option_copied previous.entry) first octets.now
-            (borrowed_fields tsig.now) }
+    /// The MAC of a message whose fields fit.
+    pub(crate) fn mac_of<M: Putting>(&self, input: &MacInput<'_, M>) -> Mac
+        requires message { IsOk (M.written false Uncompressed input.now.message) }
+        requires previous { ForSome (option_copied input.now.previous) IsCounted }
+        requires time { input.now.variables.now.tsig.time < 2 ^ 48 }
+        requires other { length input.now.variables.now.tsig.other.now < 2 ^ 16 }
+        ensures { (octets : List ℕ) → M.written false Uncompressed input.now.message ≡ Ok octets
+            → mac_octets result ≡ hmac self.now.algorithm self.now.key (mac_input (option_copied input.now.previous)
+            input.now.is_first octets input.now.variables.now.key_name.now (borrowed_data input.now.variables.now.tsig)) }
     {
         let mut hasher = self.hasher();
-        take_outgoing(
-            &mut hasher,
-            previous,
-            first,
-            octets,
-            self.signer_name(),
-            tsig,
-        );
+        put_input(&mut hasher, input);
         hasher.finish()
+    }
+
+    /// The MAC of octets that are sent with a TSIG record of this signer with these data.
+    pub(crate) fn signing_mac<'m>(
+        &self,
+        previous: Option<&'m [u8]>,
+        first: bool,
+        octets: &'m [u8],
+        variables: &'m TsigVariables<'m>,
+    ) -> Mac
+        requires previous { ForSome (option_copied previous) IsCounted }
+        requires owner { variables.now.key_name.now ≡ self.now.name }
+        requires time { variables.now.tsig.time < 2 ^ 48 }
+        requires other { length variables.now.tsig.other.now < 2 ^ 16 }
+        ensures { mac_octets result ≡ signing_mac self.now (option_copied previous.entry) first octets.now
+            (borrowed_fields variables.now.tsig) }
+    {
+        self.mac_of(&MacInput {
+            previous,
+            message: FieldOut::Octets(octets),
+            is_first: first,
+            variables,
+        })
     }
 }

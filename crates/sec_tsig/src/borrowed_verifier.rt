@@ -5,20 +5,20 @@ ghost use Rattle.dns_wire.specs.Reading.{Gives};
 ghost use Rattle.dns_grammar.specs.Messages.{Message as message_of_octets, message_at};
 ghost use Rattle.dns_rdata.specs.RDataTable.{rdata_table};
 ghost use Rattle.dns_message.specs.Views.{header_view, tsig_view, IsPlaced, TsigViewFits};
-ghost use Rattle.sec_tsig.specs.Notices.{bad_time, step_notice, time_of_octets, notice_by, notice_error, notice_time, notice_with};
+ghost use Rattle.sec_tsig.specs.Notices.{step_notice, time_of_octets, notice_by, notice_error, notice_time, notice_with};
 ghost use Rattle.sec_tsig.specs.Tsig.{IsCounted};
 ghost use Rattle.sec_tsig.specs.Verdict.{is_in_time, signature_verdict, verdict};
 ghost use Rattle.sec_tsig.specs.Views.{stepped};
 
 use crate::borrowed_signer::BorrowedSigner;
+use crate::message_check::window_of;
+use crate::signed_view::SignedView;
 use crate::tsig_step::TsigStep;
 use crate::verify_error::VerifyError;
-use dns_message::{Header, MessageView, TsigView};
+use dns_message::{Header, TsigView};
 use dns_wire::BinDecoder;
+use sec_sigdata::TsigError;
 use std::marker::Model;
-
-/// The number of the error BADTIME (RFC 8945 3).
-const BAD_TIME: u16 = 18;
 
 /// The time that octets are, where they are six.
 fn time_of_octets(octets: &[u8]) -> Option<u64>
@@ -41,14 +41,14 @@ fn notice(first: bool, tsig: &TsigView<'_>) -> (u16, Option<u64>)
     if !first {
         return (0, None);
     }
-    if tsig.error == BAD_TIME {
+    if tsig.error == u16::from(TsigError::BadTime) {
         (tsig.error, time_of_octets(tsig.other))
     } else {
         (tsig.error, None)
     }
 }
 
-/// What stands of a request and the answers accepted so far, the signer and the last MAC borrowed: what checks the next
+/// A request and the answers accepted so far, the signer and the last MAC borrowed: what checks the next
 /// answer without memory. A contract sees it as a `TsigChain`.
 #[derive(Drop)]
 pub struct BorrowedVerifier<'a> {
@@ -77,8 +77,8 @@ impl<'a> Model for BorrowedVerifier<'a> {
 }
 
 impl<'a> BorrowedVerifier<'a> {
-    /// A verifier of the next answer to a request that was sent at `request_time`, behind an answer of this MAC that was
-    /// signed at `time`; or of the first answer, behind the MAC of the request.
+    /// A verifier of the next answer to a request that was sent at `request_time`, after an answer of this MAC that was
+    /// signed at `time`; or of the first answer, after the MAC of the request.
     pub fn new(
         signer: BorrowedSigner<'a>,
         request_time: u64,
@@ -109,10 +109,10 @@ impl<'a> BorrowedVerifier<'a> {
         requires { TsigViewFits tsig.now }
         ensures { result ≡ is_in_time self.now (tsig_view tsig.now) }
     {
-        let fudge = u64::from(tsig.fudge);
+        let window = window_of(tsig);
         self.time <= tsig.time
-            && tsig.time.saturating_sub(fudge) <= self.request_time
-            && self.request_time < tsig.time + fudge
+            && window.start <= self.request_time
+            && self.request_time < window.end
     }
 
     /// The verdict on a message with this TSIG.
@@ -155,21 +155,19 @@ impl<'a> BorrowedVerifier<'a> {
     ///
     /// # Errors
     ///
-    /// `Decode` where the octets are no message, more than 65,535 octets among them; octets behind the message are no
+    /// `Decode` where the octets are no message, more than 65,535 octets among them; octets after the message are no
     /// fault. Then `MissingTsig`, `TsigWrongKey`, `TruncatedMac`, `HmacInvalid`, `Outdated` or `NotAResponse`, the first
     /// that holds. Never `OutOfMemory`.
+    #[tactic(auto, using(crate::proofs::Judged::by_view))]
     pub fn verdict(&self, octets: &[u8]) -> Result<TsigStep, VerifyError>
         ensures verdict { Gives (λ step. stepped self.now step) result (verdict self.now octets.now) }
         ensures notice { IfOk result (λ step. (message : message_of_octets) (e : ℕ)
             → message_at rdata_table octets.now ≡ Ok (message, e) → step_notice step ≡ notice_by self.now.first message) }
         ensures never { result ≢ Err VerifyError.OutOfMemory }
     {
-        let Ok(view) = MessageView::parse(octets) else {
-            return Err(VerifyError::Decode);
-        };
-        match view.tsig() {
-            None => Err(VerifyError::MissingTsig),
-            Some(tsig) => self.signature_verdict(octets, &view.header(), &tsig),
+        match SignedView::parse(octets) {
+            Ok(view) => self.signature_verdict(octets, &view.header, &view.tsig),
+            Err(cause) => Err(cause),
         }
     }
 }

@@ -4,7 +4,7 @@ ghost use Rattle.sec_tsig.specs.Laws.{InputHasOneReading, RequestPasses, Respons
 
 use sec_digest::laws::length_of_hmac;
 
-/// The verdict on octets is decided by the message that stands in them, and is `Decode` exactly where none stands.
+/// The verdict on octets is decided by the message in them, and is `Decode` exactly where there is none.
 pub fn verdict_is_by_its_message()
     ensures stands { VerdictIsByMessage }
     ensures none { NoMessageIsDecode }

@@ -13,11 +13,12 @@ ghost use Rattle.sec_tsig.specs.Tsig.{IsCounted};
 ghost use Rattle.sec_tsig.specs.Verdict.{checked_mac, expected_mac, has_signers_key};
 
 use crate::borrowed_signer::BorrowedSigner;
-use crate::mac_input::take_received;
+use crate::mac_input::MacInput;
+use crate::unsigned_message::UnsignedMessage;
 use crate::verify_error::VerifyError;
 use dns_message::{Header, TsigView};
 use sec_digest::{HmacHash, Mac};
-use sec_sigdata::{BorrowedTsig, TsigAlgorithm, TsigError};
+use sec_sigdata::{BorrowedTsig, TsigAlgorithm, TsigError, TsigVariables};
 
 /// Whether an algorithm is HMAC with a hash function, the MAC not cut.
 fn uses_hash(algorithm: &TsigAlgorithm, hash: HmacHash) -> bool
@@ -60,6 +61,19 @@ pub(crate) fn data_of<'a>(tsig: &TsigView<'a>) -> BorrowedTsig<'a>
     }
 }
 
+/// The owner and the data of a TSIG record that was received.
+pub(crate) fn variables_of<'a>(tsig: &'a TsigView<'a>) -> TsigVariables<'a>
+    requires { TsigViewFits tsig.now }
+    ensures owner { result.key_name.now ≡ tsig.now.owner }
+    ensures value { borrowed_data result.tsig ≡ tsig_view_data tsig.now }
+    ensures fits { TsigFits (borrowed_fields result.tsig) }
+{
+    TsigVariables {
+        key_name: &tsig.owner,
+        tsig: data_of(tsig),
+    }
+}
+
 impl BorrowedSigner<'_> {
     /// Whether a TSIG names the key and its algorithm.
     fn has_key_of(&self, tsig: &TsigView<'_>) -> bool
@@ -83,18 +97,13 @@ impl BorrowedSigner<'_> {
         ensures { mac_octets result ≡ expected_mac self.now (option_copied previous.entry) first octets.now
             (header_view header.now) (tsig_view tsig.now) }
     {
-        let mut hasher = self.hasher();
-        take_received(
-            &mut hasher,
+        let variables = variables_of(tsig);
+        self.mac_of(&MacInput {
             previous,
-            first,
-            octets,
-            header.additionals,
-            tsig.start,
-            &tsig.owner,
-            &data_of(tsig),
-        );
-        hasher.finish()
+            message: UnsignedMessage::of(octets, header, tsig),
+            is_first: first,
+            variables: &variables,
+        })
     }
 
     /// The MAC of a message with this TSIG, where it is right.

@@ -3,12 +3,12 @@ ghost use Rattle.std.specs.Prelude.{◌≡◌, ℕ, ◌≤◌, ◌<◌, ◌^◌,
 ghost use Rattle.sec_tsig.specs.Requests.{is_request, request_record_len, signed_request};
 
 use crate::borrowed_signer::BorrowedSigner;
+use crate::joining::{MESSAGE_LIMIT, number_at};
 use crate::signer::TSigner;
-use crate::tsig_record::{MESSAGE_LIMIT, number_at};
 use dns_message::MessageView;
 use sec_digest::laws::length_of_hmac;
 
-/// Whether octets are a request that can be signed: one message without a transaction signature, and no octets behind
+/// Whether octets are a request that can be signed: one message without a transaction signature, and no octets after
 /// it. It takes no memory.
 #[tactic(auto, using(crate::proofs::Judged::requests))]
 pub fn is_request(octets: &[u8]) -> bool

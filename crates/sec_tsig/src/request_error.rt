@@ -7,7 +7,7 @@ use std::fmt;
 pub enum RequestError {
     /// The time is 2^48 seconds or more.
     TimeTooLarge,
-    /// The octets are no message without a transaction signature, or go on behind it.
+    /// The octets are no message without a transaction signature, or go on after it.
     NotARequest,
     /// The message has 65,535 additional records, and there is no number for one more.
     CountTooLarge,

@@ -1,20 +1,19 @@
 //! Signing answers.
-ghost use Rattle.std.specs.Prelude.{◌≡◌, ◌<◌, ◌^◌, length};
+ghost use Rattle.std.specs.Prelude.{◌≡◌, []};
 ghost use Rattle.dns_wire.specs.Reading.{GivesUnless};
-ghost use Rattle.sec_sigdata.specs.TsigErrors.{optional_error_number};
-ghost use Rattle.sec_sigdata.specs.TsigRecords.{borrowed_fields, TsigFits};
+ghost use Rattle.sec_sigdata.specs.TsigRecords.{borrowed_fields};
 ghost use Rattle.sec_tsig.specs.Tsig.{tsig_record};
 ghost use Rattle.sec_tsig.specs.Responses.{Signed, WithServerTime, WrongMac, WrongKey, response_record, reply_record};
-ghost use Rattle.sec_tsig.specs.Responses.{signed_reply, unsigned_reply, unknown_key_tsig};
+ghost use Rattle.sec_tsig.specs.Responses.{unsigned_reply, unknown_key_tsig};
 
 use crate::sign_error::TsigSignError;
 use crate::signer::TSigner;
-use crate::signing::{COUNTED_LIMIT, TIME_LIMIT};
+use crate::signing::check_time;
 use crate::tsig_record::record_with_mac;
 use dns_message::Record;
 use dns_names::Name;
 use dns_wire::time_octets;
-use sec_sigdata::{BorrowedTsig, TSIG, TsigAlgorithm, TsigError};
+use sec_sigdata::{BorrowedTsig, TSIG, TsigAlgorithm, TsigError, TsigVariables};
 use std::alloc::Global;
 use std::marker::Model;
 
@@ -52,49 +51,15 @@ impl Model for TSigResponseContext {
 }
 
 /// The record of an answer that is not signed.
-fn unsigned_reply(
+fn unsigned_reply<'m>(
     alloc: Global,
-    owner: &Name,
-    tsig: &BorrowedTsig<'_>,
+    variables: &'m TsigVariables<'m>,
 ) -> Result<Record<TSIG>, TsigSignError>
-    requires { length tsig.now.mac.now ≡ 0 }
     ensures { GivesUnless TsigSignError.OutOfMemory tsig_record result
-        (unsigned_reply owner.now (borrowed_fields tsig.now)) }
+        (unsigned_reply variables.now.key_name.now (borrowed_fields variables.now.tsig)) }
 {
-    if tsig.time >= TIME_LIMIT {
-        return Err(TsigSignError::TimeTooLarge);
-    }
-    Ok(record_with_mac(alloc, owner, tsig, tsig.mac)?)
-}
-
-/// The record of an answer that covers the MAC of its request.
-fn signed_reply(
-    signer: &TSigner,
-    request_mac: &[u8],
-    response: &[u8],
-    tsig: &BorrowedTsig<'_>,
-) -> Result<Record<TSIG>, TsigSignError>
-    requires { length tsig.now.other.now < 2 ^ 16 }
-    ensures { GivesUnless TsigSignError.OutOfMemory tsig_record result
-        (signed_reply signer.now request_mac.now response.now (borrowed_fields tsig.now)) }
-{
-    if tsig.time >= TIME_LIMIT {
-        return Err(TsigSignError::TimeTooLarge);
-    }
-    if request_mac.len() > COUNTED_LIMIT {
-        return Err(TsigSignError::MacTooLong);
-    }
-    Ok(signer.signing_record(Some(request_mac), true, response, tsig)?)
-}
-
-/// The number of an error, and 0 for none.
-fn error_number(error: Option<TsigError>) -> u16
-    ensures { result ≡ optional_error_number error }
-{
-    match error {
-        Some(error) => u16::from(error),
-        None => 0,
-    }
+    check_time(variables.tsig.time)?;
+    Ok(record_with_mac(alloc, variables, variables.tsig.mac)?)
 }
 
 /// The record of an answer with this error or none.
@@ -109,19 +74,15 @@ fn reply_with_error(
     ensures { GivesUnless TsigSignError.OutOfMemory tsig_record result
         (reply_record id time (Signed signer.now request_mac.now error) response.now) }
 {
-    let number = error_number(error);
-    if number == 16 || number == 17 {
+    let variables = signer.borrowed().tsig_by(time, id, error, &[]);
+    let number = variables.tsig.error_number();
+    if number == u16::from(TsigError::BadSig) || number == u16::from(TsigError::BadKey) {
         return Err(TsigSignError::UnsignedError(number));
     }
-    if number == 18 {
+    if number == u16::from(TsigError::BadTime) {
         return Err(TsigSignError::NeedsServerTime);
     }
-    signed_reply(
-        signer,
-        request_mac,
-        response,
-        &signer.borrowed().tsig_by(time, id, error, &[]),
-    )
+    signer.signed_after(request_mac, true, response, &variables)
 }
 
 /// The record of an answer with the server's time.
@@ -136,14 +97,21 @@ fn reply_with_server_time(
     ensures { GivesUnless TsigSignError.OutOfMemory tsig_record result
         (reply_record id time (WithServerTime signer.now request_mac.now server_time) response.now) }
 {
-    if server_time >= TIME_LIMIT {
-        return Err(TsigSignError::TimeTooLarge);
-    }
+    check_time(server_time)?;
     let other = time_octets(server_time);
-    let tsig = signer
-        .borrowed()
-        .tsig_by(time, id, Some(TsigError::BadTime), &other);
-    signed_reply(signer, request_mac, response, &tsig)
+    let borrowed = signer.borrowed();
+    let variables = borrowed.tsig_by(time, id, Some(TsigError::BadTime), &other);
+    signer.signed_after(request_mac, true, response, &variables)
+}
+
+/// The record of an answer to a request whose MAC was wrong.
+fn reply_to_wrong_mac(signer: &TSigner, id: u16, time: u64) -> Result<Record<TSIG>, TsigSignError>
+    ensures { GivesUnless TsigSignError.OutOfMemory tsig_record result
+        (reply_record id time (WrongMac signer.now) []) }
+{
+    let borrowed = signer.borrowed();
+    let variables = borrowed.tsig_by(time, id, Some(TsigError::BadSig), &[]);
+    unsigned_reply(signer.alloc(), &variables)
 }
 
 /// The record of an answer under an unknown key.
@@ -156,16 +124,19 @@ fn reply_to_unknown_key(
     ensures { GivesUnless TsigSignError.OutOfMemory tsig_record result
         (unsigned_reply owner.now (unknown_key_tsig time id)) }
 {
-    let tsig = BorrowedTsig {
-        algorithm: TsigAlgorithm::HmacSha256,
-        time,
-        fudge: DEFAULT_FUDGE,
-        mac: &[],
-        oid: id,
-        error: Some(TsigError::BadKey),
-        other: &[],
+    let variables = TsigVariables {
+        key_name: owner,
+        tsig: BorrowedTsig {
+            algorithm: TsigAlgorithm::HmacSha256,
+            time,
+            fudge: DEFAULT_FUDGE,
+            mac: &[],
+            oid: id,
+            error: Some(TsigError::BadKey),
+            other: &[],
+        },
     };
-    unsigned_reply(alloc, owner, &tsig)
+    unsigned_reply(alloc, &variables)
 }
 
 impl TSigResponseContext {
@@ -272,12 +243,7 @@ impl TSigResponseContext {
                 time,
                 response,
             ),
-            Reply::WrongMac(signer) => {
-                let tsig = signer
-                    .borrowed()
-                    .tsig_by(time, id, Some(TsigError::BadSig), &[]);
-                unsigned_reply(signer.alloc(), signer.signer_name(), &tsig)
-            }
+            Reply::WrongMac(signer) => reply_to_wrong_mac(&signer, id, time),
             Reply::WrongKey(alloc, owner) => reply_to_unknown_key(alloc, &owner, id, time),
         }
     }

@@ -1,43 +1,64 @@
 //! Signing requests and later answers.
-ghost use Rattle.std.specs.Prelude.{◌≡◌, ◌≤◌, ◌<◌, ◌^◌, length, None, IfOk};
-ghost use Rattle.std.specs.Option.{option_copied, ForSome};
+ghost use Rattle.std.specs.Prelude.{◌≡◌, ◌≤◌, ◌<◌, ◌^◌, length, MatchResult};
 ghost use Rattle.dns_wire.specs.Reading.{GivesUnless};
-ghost use Rattle.sec_sigdata.specs.TsigRecords.{borrowed_fields, TsigFits};
-ghost use Rattle.sec_tsig.specs.Tsig.{tsig_record, IsCounted};
-ghost use Rattle.sec_tsig.specs.Signers.{signing_record, signed_later};
+ghost use Rattle.sec_sigdata.specs.TsigRecords.{borrowed_fields};
+ghost use Rattle.sec_tsig.specs.Tsig.{tsig_record};
+ghost use Rattle.sec_tsig.specs.Signers.{signed_after, signed_later};
 ghost use Rattle.sec_tsig.specs.Verdict.{signed_octets};
 
+use crate::joining::number_at;
 use crate::sign_error::TsigSignError;
 use crate::signer::TSigner;
-use crate::tsig_record::{number_at, record_with_mac};
+use crate::tsig_record::record_with_mac;
 use crate::verifier::TSigVerifier;
 use dns_message::Record;
-use sec_sigdata::{BorrowedTsig, TSIG};
-use std::alloc::AllocError;
+use sec_sigdata::{TSIG, TsigVariables};
 
-/// The first time that has no room in a TSIG record.
+/// The first time that the six octets of a TSIG record can't hold (RFC 8945 4.2).
 pub(crate) const TIME_LIMIT: u64 = 1 << 48;
 
 /// The number of octets that two octets can count.
-pub(crate) const COUNTED_LIMIT: usize = 65535;
+const COUNTED_LIMIT: usize = 65535;
+
+/// Whether a TSIG record can hold a time.
+pub(crate) fn check_time(time: u64) -> Result<(), TsigSignError>
+    ensures { MatchResult result (λ _. time < 2 ^ 48)
+        (λ cause. (2 ^ 48 ≤ time) × (cause ≡ TsigSignError.TimeTooLarge)) }
+{
+    if time < TIME_LIMIT {
+        Ok(())
+    } else {
+        Err(TsigSignError::TimeTooLarge)
+    }
+}
 
 impl TSigner {
-    /// The record that signs octets with these data.
-    pub(crate) fn signing_record(
+    /// The record that signs octets after the message of this MAC.
+    ///
+    /// # Errors
+    ///
+    /// `TimeTooLarge` for a time of 2^48 or more, then `MacTooLong` for a MAC of more than 65,535 octets, or
+    /// `OutOfMemory`.
+    pub(crate) fn signed_after<'m>(
         &self,
-        previous: Option<&[u8]>,
+        previous: &[u8],
         first: bool,
         octets: &[u8],
-        tsig: &BorrowedTsig<'_>,
-    ) -> Result<Record<TSIG>, AllocError>
-        requires previous { ForSome (option_copied previous) IsCounted }
-        requires time { tsig.now.time < 2 ^ 48 }
-        requires other { length tsig.now.other.now < 2 ^ 16 }
-        ensures { IfOk result (λ rr. tsig_record rr ≡ signing_record self.now (option_copied previous.entry) first
-            octets.now (borrowed_fields tsig.now)) }
+        variables: &'m TsigVariables<'m>,
+    ) -> Result<Record<TSIG>, TsigSignError>
+        requires owner { variables.now.key_name.now ≡ self.now.name }
+        requires other { length variables.now.tsig.other.now < 2 ^ 16 }
+        ensures { GivesUnless TsigSignError.OutOfMemory tsig_record result
+            (signed_after self.now previous.now first octets.now (borrowed_fields variables.now.tsig)) }
     {
-        let mac = self.borrowed().signing_mac(previous, first, octets, tsig);
-        record_with_mac(self.alloc(), self.signer_name(), tsig, mac.as_slice())
+        check_time(variables.tsig.time)?;
+        if previous.len() > COUNTED_LIMIT {
+            return Err(TsigSignError::MacTooLong);
+        }
+        let mac = self
+            .borrowed()
+            .signing_mac(Some(previous), first, octets, variables);
+        Ok(record_with_mac(self.alloc(), variables, mac.as_slice())?)
     }
 
     /// Signs a request that is sent at `current_time`, in seconds from 1970 on (RFC 8945 5.1): the TSIG record for it,
@@ -55,18 +76,16 @@ impl TSigner {
         ensures { GivesUnless TsigSignError.OutOfMemory (λ x. (tsig_record x.0, x.1)) result
             (signed_octets self.now current_time octets.now) }
     {
-        if current_time >= TIME_LIMIT {
-            return Err(TsigSignError::TimeTooLarge);
-        }
+        check_time(current_time)?;
         let signer = self.borrowed();
-        let tsig = signer.tsig_by(current_time, number_at(octets, 0), None, &[]);
-        let mac = signer.signing_mac(None, true, octets, &tsig);
-        let rr = record_with_mac(self.alloc(), self.signer_name(), &tsig, mac.as_slice())?;
+        let variables = signer.tsig_by(current_time, number_at(octets, 0), None, &[]);
+        let mac = signer.signing_mac(None, true, octets, &variables);
+        let rr = record_with_mac(self.alloc(), &variables, mac.as_slice())?;
         let verifier = TSigVerifier::new(self.try_clone()?, current_time, mac);
         Ok((rr, verifier))
     }
 
-    /// Signs an answer behind the first, which covers the MAC of the answer before and its own timers (RFC 8945 5.3.1).
+    /// Signs an answer after the first, which covers the MAC of the answer before and its own timers (RFC 8945 5.3.1).
     ///
     /// # Errors
     ///
@@ -82,13 +101,8 @@ impl TSigner {
         ensures { GivesUnless TsigSignError.OutOfMemory tsig_record result
             (signed_later self.now previous_mac.now response.now request_id time) }
     {
-        if time >= TIME_LIMIT {
-            return Err(TsigSignError::TimeTooLarge);
-        }
-        if previous_mac.len() > COUNTED_LIMIT {
-            return Err(TsigSignError::MacTooLong);
-        }
-        let tsig = self.borrowed().tsig_by(time, request_id, None, &[]);
-        Ok(self.signing_record(Some(previous_mac), false, response, &tsig)?)
+        let signer = self.borrowed();
+        let variables = signer.tsig_by(time, request_id, None, &[]);
+        self.signed_after(previous_mac, false, response, &variables)
     }
 }

@@ -6,7 +6,7 @@ ghost use Rattle.sec_tsig.specs.Notices.{step_notice};
 use sec_digest::Mac;
 
 /// By what an accepted answer moves its chain: its MAC and the time at which it was signed; and what it tells. A
-/// contract sees the chain behind it, by `stepped`, and what it tells, by `step_notice`.
+/// contract sees the chain after it, by `stepped`, and what it tells, by `step_notice`.
 #[derive(Clone, Copy, Debug)]
 pub struct TsigStep {
     pub(crate) mac: Mac,

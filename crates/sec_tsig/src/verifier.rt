@@ -16,7 +16,7 @@ use dns_message::DnsResponse;
 use sec_digest::Mac;
 use std::marker::Model;
 
-/// Checks the answers to a signed request, one behind the other: who signs, the time of the request, the last MAC, the
+/// Checks the answers to a signed request, one after the other: who signs, the time of the request, the last MAC, the
 /// last time signed, and whether the next answer is the first. A contract sees it as a `TsigChain`.
 #[derive(Debug, Drop)]
 pub struct TSigVerifier {
@@ -97,7 +97,7 @@ impl TSigVerifier {
         self.borrowed().verdict(octets)
     }
 
-    /// Moves the chain behind an answer on which the verdict gave this step.
+    /// Moves the chain after an answer on which the verdict gave this step.
     pub fn advance(&mut self, step: TsigStep)
         ensures { self.new ≡ stepped self.old step }
     {
@@ -106,7 +106,7 @@ impl TSigVerifier {
         self.first = false;
     }
 
-    /// Checks the next answer (RFC 8945 5.2 to 5.4), and moves the chain behind it where it is accepted. It takes no
+    /// Checks the next answer (RFC 8945 5.2 to 5.4), and moves the chain after it where it is accepted. It takes no
     /// memory.
     ///
     /// # Errors
@@ -121,11 +121,12 @@ impl TSigVerifier {
         Ok(())
     }
 
-    /// Checks the next answer (RFC 8945 5.2 to 5.4), reads it, and moves the chain behind it where it is accepted.
+    /// Checks the next answer (RFC 8945 5.2 to 5.4), reads it, and moves the chain after it where it is accepted.
     ///
     /// # Errors
     ///
     /// Those of `verdict`, or `OutOfMemory`. The chain then stays as it was.
+    #[tactic(auto, using(crate::proofs::Accepted::exits))]
     pub fn verify(&mut self, response_bytes: &[u8]) -> Result<DnsResponse, VerifyError>
         ensures verdict { MovesChainUnless result self.old self.new (verdict self.old response_bytes.now) }
         ensures response { IfOk result (IsResponseOf response_bytes.now) }
@@ -134,13 +135,12 @@ impl TSigVerifier {
         let Ok(buffer) = Vec::from_slice(self.signer.alloc(), response_bytes) else {
             return Err(VerifyError::OutOfMemory);
         };
-        // The octets are a response, since the verdict is right: what may be wanting is memory.
         match DnsResponse::from_buffer(buffer) {
             Ok(response) => {
                 self.advance(next);
                 Ok(response)
             }
-            Err(_) => Err(VerifyError::OutOfMemory),
+            Err(cause) => Err(cause.into()),
         }
     }
 }

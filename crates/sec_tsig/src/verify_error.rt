@@ -1,4 +1,5 @@
 //! Why a message is no valid answer.
+use dns_message::ResponseError;
 use std::alloc::AllocError;
 use std::error::Error;
 use std::fmt;
@@ -55,5 +56,20 @@ impl From<AllocError> for VerifyError {
 
     fn from(_e: AllocError) -> VerifyError {
         VerifyError::OutOfMemory
+    }
+}
+
+impl From<ResponseError> for VerifyError {
+    ghost use Rattle.std.specs.Prelude.{◌≡◌};
+    ghost use Rattle.sec_tsig.specs.ResponseCauses.{response_cause};
+
+    ghost from_gives = { λ error cause. cause ≡ response_cause error };
+
+    fn from(error: ResponseError) -> VerifyError {
+        match error {
+            ResponseError::Decode(_) => VerifyError::Decode,
+            ResponseError::NotAResponse => VerifyError::NotAResponse,
+            ResponseError::OutOfMemory => VerifyError::OutOfMemory,
+        }
     }
 }

@@ -5,7 +5,9 @@ use dns_names::Name;
 use dns_rdata::{DNSSECRData, RData};
 use dns_types::{DNSClass, RecordType};
 use dns_wire::EmitError;
-use sec_sign::{CanonicalSet, KeyedHash, PairVerdict, authenticates, authenticates_set};
+use sec_sign::{
+    CanonicalSet, KeyedHash, PairVerdict, RrsetName, ZoneKey, authenticates, authenticates_set,
+};
 use std::alloc::Global;
 use std::test::Fail;
 
@@ -19,19 +21,18 @@ fn found(
     let name = Name::from_ascii("example.")?;
     let rdata = RData::DNSSEC(DNSSECRData::RRSIG(rrsig_of(alloc, HEADER, signature)?));
     let rrsig = Record::from_rdata(name, 0, rdata);
-    Ok(authenticates_set(
-        alloc,
-        &KeyedHash,
-        moment,
-        &name,
-        DNSClass::IN,
-        RecordType::A,
-        &rrsig,
-        &name,
-        DNSClass::IN,
-        &dnskey_of(alloc, KEY)?,
-        set,
-    )?)
+    let addresses = RrsetName {
+        name: &name,
+        dns_class: DNSClass::IN,
+        rtype: RecordType::A,
+    };
+    let dnskey = dnskey_of(alloc, KEY)?;
+    let key = ZoneKey {
+        owner: &name,
+        dns_class: DNSClass::IN,
+        dnskey: &dnskey,
+    };
+    Ok(authenticates_set(alloc, &KeyedHash, moment, &addresses, &rrsig, &key, set)?)
 }
 
 /// Moments, signatures, and what is found for the addresses.
@@ -65,19 +66,19 @@ fn nothing_is_accepted_for_a_set_without_data(rt: HostRuntime) -> Result<(), Fai
 fn an_address_is_no_signature(rt: HostRuntime) -> Result<(), Fail> {
     let name = Name::from_ascii("example.")?;
     let address = Record::from_rdata(name, 3600, RData::A([192, 0, 2, 1]));
-    let verdict = authenticates(
-        rt.alloc(),
-        &KeyedHash,
-        1500,
-        &name,
-        DNSClass::IN,
-        RecordType::A,
-        &address,
-        &name,
-        DNSClass::IN,
-        &dnskey_of(rt.alloc(), KEY)?,
-        &addresses(rt.alloc())?,
-    )?;
+    let set = RrsetName {
+        name: &name,
+        dns_class: DNSClass::IN,
+        rtype: RecordType::A,
+    };
+    let dnskey = dnskey_of(rt.alloc(), KEY)?;
+    let key = ZoneKey {
+        owner: &name,
+        dns_class: DNSClass::IN,
+        dnskey: &dnskey,
+    };
+    let records = addresses(rt.alloc())?;
+    let verdict = authenticates(rt.alloc(), &KeyedHash, 1500, &set, &address, &key, &records)?;
     assert_eq!(rt; verdict, PairVerdict::NotMet);
     Ok(())
 }

@@ -1,7 +1,7 @@
 //! Sources and sinks, and reading and writing all of them.
 use dns_io::{
-    Failed, INPUT_LIMIT, MemSink, MemSource, PlainSource, ReadError, Sink, Source, StdSink,
-    StdSource, read_all, write_all,
+    Failed, INPUT_LIMIT, MemSink, MemSource, PlainSink, PlainSource, ReadError, Sink, Source,
+    StdSink, StdSource, read_all, write_all,
 };
 use std::alloc::Global;
 use std::io;
@@ -34,6 +34,73 @@ impl Write for Failing {
     fn flush(&mut self) -> io::Result<()> {
         Ok(())
     }
+}
+
+/// A reader or a writer of at most two octets a call, of which a signal interrupts every other call.
+#[derive(Drop)]
+struct Interrupted<S> {
+    stream: S,
+    was_interrupted: bool,
+}
+
+impl<S> Interrupted<S> {
+    fn new(stream: S) -> Interrupted<S> {
+        Interrupted {
+            stream,
+            was_interrupted: false,
+        }
+    }
+
+    fn interrupt(&mut self) -> io::Result<()> {
+        self.was_interrupted = !self.was_interrupted;
+        if self.was_interrupted {
+            return Err(io::Error::from(io::ErrorKind::Interrupted));
+        }
+        Ok(())
+    }
+}
+
+impl<R: Read> Read for Interrupted<R> {
+    fn read(&mut self, buf: &mut [u8]) -> io::Result<usize> {
+        self.interrupt()?;
+        let len = buf.len().min(2);
+        self.stream.read(&mut buf[..len])
+    }
+}
+
+impl<W: Write> Write for Interrupted<W> {
+    fn write(&mut self, buf: &[u8]) -> io::Result<usize> {
+        self.interrupt()?;
+        self.stream.write(&buf[..buf.len().min(2)])
+    }
+
+    fn flush(&mut self) -> io::Result<()> {
+        self.stream.flush()
+    }
+}
+
+#[test]
+fn interrupted_calls_are_tried_again(rt: HostRuntime) -> Result<(), Fail> {
+    let alloc = rt.alloc();
+    let mut source = StdSource::new(Interrupted::new(b"key\nrequest\n".as_slice()));
+    let content = read_all(alloc, &mut source)?;
+    assert_eq!(rt; content.as_slice(), b"key\nrequest\n".as_slice());
+    let mut written = Vec::new(alloc);
+    let mut sink = StdSink::new(Interrupted::new(&mut written));
+    write_all(&mut sink, b"fault\n")?;
+    assert_eq!(rt; written.as_slice(), b"fault\n".as_slice());
+    Ok(())
+}
+
+#[test]
+fn interrupted_streams_fail(rt: HostRuntime) {
+    let mut source = StdSource::new(Interrupted::new(Failing { calls: 0 }));
+    assert_eq!(rt;
+        read_all(rt.alloc(), &mut source).err(),
+        Some(ReadError::Fault)
+    );
+    let mut sink = StdSink::new(Interrupted::new(Failing { calls: 0 }));
+    assert_eq!(rt; write_all(&mut sink, b"fault\n"), Err(Failed));
 }
 
 #[test]
@@ -83,6 +150,16 @@ fn a_sink_in_memory_is_written_in_pieces(rt: HostRuntime) -> Result<(), Fail> {
     assert_eq!(rt; write_all(&mut sink, b"fgh"), Err(Failed));
     assert_eq!(rt; write_all(&mut sink, b"fghij"), Err(Failed));
     assert_eq!(rt; sink.as_slice(), b"abcdefghi".as_slice());
+    Ok(())
+}
+
+#[test]
+fn a_plain_sink_takes_all(rt: HostRuntime) -> Result<(), Fail> {
+    let mut sink = PlainSink::new(rt.alloc());
+    for text in ["abc", "", "defgh"] {
+        write_all(&mut sink, text.as_bytes())?;
+    }
+    assert_eq!(rt; sink.kept(), Some(b"abcdefgh".as_slice()));
     Ok(())
 }
 

@@ -4,8 +4,10 @@ use Rattle.std.specs.List.{All}
 use Rattle.message_walk.specs.Places.{data_at}
 use Rattle.sec_sign.specs.Ascending.{Ascend, ascending}
 use Rattle.sec_sign.proofs.AscendingLaws.{ascends}
-use Rattle.sec_sign.specs.Pairs.{SetName}
-use Rattle.rrsig_input.specs.Walks.{data_from, data_of_each}
+use Rattle.sec_sign.specs.Pairs.{set_named}
+use Rattle.sec_sign.specs.Sets.{SetName}
+use Rattle.rrsig_input.specs.SignedSets.{data_from}
+use Rattle.rrsig_input.proofs.Walks.{data_of_each}
 use Rattle.rrsig_input.proofs.MessageSteps.{each_stands, few_places, short_message}
 use Rattle.rrsig_input.proofs.SetSteps.{from_none, put_each}
 use Rattle.rrsig_input.proofs.set_places.places_of_set.Goals as goal
@@ -15,7 +17,7 @@ unfolding ascending
 records-init c =
     let m = c.args.message.now in
     let left = c.args.walk.left in
-    let set : SetName = record { name = c.args.name.now; dns_class = c.args.dns_class; rtype = c.args.rtype } in
+    let set : SetName = set_named c.args.set.now in
     let none : c.new-places.result ≡ [] = c.new-places.ensures in
     let Listed : List ℕ → Type 0 = λ places. All (λ place. IsOk (data_at m place)) places in
     let Ascends : List ℕ → Type 0 = λ places. Ascend (map (data_from m) places) in

@@ -4,7 +4,7 @@ use Rattle.dns_rdata.specs.declared.rdata.RData.{RData}
 use Rattle.dns_message.specs.declared.record.Record.{Record}
 use Rattle.dns_message.specs.Parts.{record_view}
 use Rattle.sec_sign.specs.Pairs.{signature_record}
-use Rattle.sec_sign.specs.Signed.{set_data}
+use Rattle.sec_sign.specs.Sets.{set_data}
 use Rattle.sec_check.specs.Marks.{Trust, mark_by, strongest_pair}
 use Rattle.sec_check.specs.SectionRecords.{is_record_of, is_signature_of, name_of}
 use Rattle.sec_check.proofs.MarkLaws.{held_mark, marked}
@@ -21,14 +21,14 @@ returns g c records holds read forms =
     c.get-signatures.ensures ∙ holds.signatures_of set in
     let found : c.in_ok-proof.proof
     ≡ mark_by (strongest_pair trust set
-    (set_data set.name set.dns_class set.rtype c.get-records.result.now)
+    (set_data set c.get-records.result.now)
     (map signature_record c.get-signatures.result.now)) = search rules in
     marked trust c.args.section (map record_view records) set c.from.result c.from-2.result c.in_ok-proof.proof
     c.from.ensures c.from-2.ensures
     (found
     ∙ ap (λ (rrs : List (Record RData)). mark_by (strongest_pair trust set
-    (set_data set.name set.dns_class set.rtype rrs) (map signature_record c.get-signatures.result.now))) of_set
+    (set_data set rrs) (map signature_record c.get-signatures.result.now))) of_set
     ∙ ap (λ (rrs : List (Record RData)). mark_by (strongest_pair trust set
-    (set_data set.name set.dns_class set.rtype (filter (is_record_of set) records)) (map signature_record rrs)))
+    (set_data set (filter (is_record_of set) records)) (map signature_record rrs)))
     covering
     ∙ held_mark trust set records read forms)

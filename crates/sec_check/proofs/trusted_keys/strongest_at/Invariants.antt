@@ -1,7 +1,8 @@
 use Rattle.std.proofs.Common.{◌≡◌, drop, map}
 use Rattle.sec_anchor.specs.Entries.{EntryData, entry_data}
 use Rattle.sec_sign.specs.declared.pair.PairVerdict.{PairVerdict}
-use Rattle.sec_sign.specs.Pairs.{SetName, record_verdict, signature_record}
+use Rattle.sec_sign.specs.Pairs.{record_verdict, signature_record}
+use Rattle.sec_sign.specs.Sets.{SetName}
 use Rattle.sec_sign.specs.Verifying.{Relation}
 use Rattle.sec_check.specs.Indexes.{strongest_at}
 use Rattle.sec_check.specs.Marks.{stronger, zone_key}

@@ -1,4 +1,4 @@
-use Rattle.std.proofs.Common.{rules, ◌≡◌, ◌∙◌, sym, ap, subst, ℕ, List, Result, Ok}
+use Rattle.std.proofs.Common.{rules, ◌≡◌, ◌∙◌, sym, ap, subst, ℕ, Bool, List, Result, Ok}
 use Rattle.dns_grammar.specs.Messages.{Message, message_at}
 use Rattle.dns_rdata.specs.RDataTable.{rdata_table}
 use Rattle.sec_anchor.specs.Entries.{EntryData}
@@ -17,21 +17,22 @@ returns-in-Ok g c =
     let moment = c.args.moment in
     let chain = c.self.inside.verifier in
     let octets = c.args.octets.now in
-    let trust : Trust = record { accepts = accepts; moment = moment; entries = c.self.inside.keys } in
+    let trust : Trust = record { accepts = accepts; moment = moment; entries = c.self.inside.trusted.entries } in
     let accepted : verdict chain octets ≡ Ok (stepped chain c.in_ok-step.step) = search rules in
     let advanced : verdict chain octets ≡ Ok c.advance.new.self =
     accepted ∙ ap (λ (next : TsigChain). let ok : Result TsigChain VerifyError = Ok next in ok) (sym c.advance.ensures) in
     let told : (m : Message) (e : ℕ) → message_at rdata_table octets ≡ Ok (m, e)
     → step_notice c.in_ok-step.step ≡ notice_by chain.first m = search rules in
-    let reports : (m : Message) (e : ℕ) → message_at rdata_table octets ≡ Ok (m, e)
-    → step_notice c.in_ok-step.step ≡ notice_by chain.first m
+    let reports : (first : Bool) (m : Message) (e : ℕ) → message_at rdata_table octets ≡ Ok (m, e)
+    → step_notice c.in_ok-step.step ≡ notice_by first m
     → c.in-Ok.report
-    ≡ report_of record { accepts = accepts; moment = moment; entries = c.index.new.self } chain.first m = search rules in (
+    ≡ report_of record { accepts = accepts; moment = moment; entries = c.keys-keys.result } first m = search rules in
+    let entries : c.keys-keys.result ≡ c.self.inside.trusted.entries = c.keys-keys.ensures ∙ c.index.ensures.entries in (
       subst (λ (checker : CheckerData). answered (trust_of checker accepts moment) checker.chain octets
-          ≡ Ok (c.in-Ok.report, c.advance.new.self)) c.self.view_is
+          ≡ Ok record { report = c.in-Ok.report; next = c.advance.new.self }) c.self.view_is
           (accepted_report trust chain c.advance.new.self octets c.in-Ok.report advanced
-          (λ m e read. reports m e read (told m e read)
+          (λ m e read. reports chain.first m e read (told m e read)
           ∙ ap (λ (entries : List EntryData). report_of
-          record { accepts = accepts; moment = moment; entries = entries } chain.first m) c.index.ensures)),
-      c.index.ensures ∙ ap (λ (checker : CheckerData). checker.entries) c.self.view_is,
+          record { accepts = accepts; moment = moment; entries = entries } chain.first m) entries)),
+      c.index.ensures.entries ∙ ap (λ (checker : CheckerData). checker.entries) c.self.view_is,
     )

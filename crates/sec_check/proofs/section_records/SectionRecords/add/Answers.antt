@@ -1,6 +1,6 @@
 use Rattle.std.proofs.Common.{rules, ◌≡◌, refl, true, false, Some, None}
 use Rattle.dns_rdata.specs.RData.{rdata_type}
-use Rattle.sec_sign.specs.MessageSets.{same_set}
+use Rattle.sec_sign.specs.Sets.{same_set}
 use Rattle.sec_sign.specs.Pairs.{signature_record}
 use Rattle.sec_check.specs.Indexes.{values_at}
 use Rattle.sec_check.specs.RecordSets.{forms_rrset, with_new}

@@ -1,6 +1,6 @@
 use Rattle.std.proofs.Common.{map, ◌∷◌, [], List, refl, sym, ap, subst, ◌∙◌}
 use Rattle.std.proofs.lemmas.List.{map-append}
-use Rattle.sec_sign.specs.Pairs.{SetName}
+use Rattle.sec_sign.specs.Sets.{SetName}
 use Rattle.sec_check.specs.SectionRecords.{Knows, name_of}
 use Rattle.sec_check.proofs.KeySteps.{knows_new}
 use Rattle.sec_check.proofs.set_list.SetList.insert.Goals as goal

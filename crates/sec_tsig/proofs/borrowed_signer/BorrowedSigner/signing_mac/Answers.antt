@@ -1,4 +1,4 @@
-use Rattle.std.proofs.Common.{ℕ, List, [], ap, ◌∙◌}
+use Rattle.std.proofs.Common.{ℕ, List, ap, refl, ◌∙◌}
 use Rattle.std.specs.Option.{option_copied}
 use Rattle.sec_digest.specs.Hmac.{hmac}
 use Rattle.sec_sigdata.specs.TsigRecords.{borrowed_data}
@@ -8,7 +8,6 @@ use Rattle.sec_tsig.proofs.borrowed_signer.BorrowedSigner.signing_mac.Goals as g
 pub returns : goal.returns
 returns c =
     let signer = c.args.self.now in
-    c.finish.ensures.value signer.algorithm signer.key _
-    (c.take_outgoing.ensures (signer.algorithm, signer.key) [] c.hasher-hasher.ensures)
+    c.mac_of.ensures c.args.octets.now refl
     ∙ ap (λ (n : List (List ℕ)). hmac signer.algorithm signer.key (mac_input (option_copied c.args.previous) c.args.first
-    c.args.octets.now n (borrowed_data c.args.tsig.now))) c.signer_name.ensures
+    c.args.octets.now n (borrowed_data c.args.variables.now.tsig))) c.requires.owner

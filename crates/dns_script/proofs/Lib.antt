@@ -1,0 +1,3 @@
+mod ScriptLines
+mod Outcomes
+pub mod ReadOrFaulty
